@@ -46,7 +46,7 @@ while read -r tool; do
     cp "$top/$tool" "$lib/$tool"
     ln -sf "../lib/scadserve/$tool" "$root/bin/${tool##*/}"
 done <"$top/TOOLS"
-# (so that no run of whoever can't write there compiles the modules again)
+# (so that no run of a user who can't write there compiles the modules again)
 if [ -z "${DESTDIR-}" ] && command -v python3 >/dev/null; then
     python3 -m compileall -q "$lib/clients" || true
 fi

@@ -4,10 +4,11 @@
 # eight with the same ones, and one client with a sponge, with 200 parts, and with 40 tetrahedra that are joined by halves.
 # The first rows are their peer: the eight clients with parts of their own, each served by a program of its own, so that they
 # share nothing but the machine. Each row is taken with the settings of memory.sh and without them. Run by hand, on a machine
-# with four processors that has nothing else to do, after `rt ci` has built the program.
+# with four processors that has nothing else to do, after `rt ci` has built the program, or with SCADSERVE as the name of
+# another one.
 set -u
 top=$(cd "$(dirname "$0")/.." && pwd) || exit 1
-program=$top/crates/scadserve/out/scadserve
+program=${SCADSERVE:-$top/crates/scadserve/out/scadserve}
 if [ ! -x "$program" ]; then
     echo "clients: 'rt ci' builds the program that this times" >&2
     exit 2
@@ -21,8 +22,8 @@ work=$(mktemp -d) || exit 1
 trap 'rm -rf "$work"' EXIT
 trap 'exit 1' HUP INT TERM
 
-# The nanoseconds that the scripts of a folder take, each by a program of its own, all at the same time, on so many processors
-# with so many workers.
+# The nanoseconds that the scripts of a folder take, each by a program of its own, all at the same time, on this many processors
+# with this many workers.
 nanoseconds() {
     began=$(date +%s%N)
     runs=
@@ -58,7 +59,8 @@ rows() {
 
 # The lines of a client whose parts have this height.
 client() {
-    echo "$1 put 1 module part(i) { translate([7*i, 0, 0]) difference() { cube([4, 4, $2]); translate([1, 1, 0]) cube([2, 2, 2]); } }"
+    hollow="difference() { cube([4, 4, $2]); translate([1, 1, 0]) cube([2, 2, 2]); }"
+    echo "$1 put 1 module part(i) { translate([7*i, 0, 0]) $hollow }"
     echo "$1 put 2 for (i = [1 : $3]) part(i);"
     echo "$1 export"
 }

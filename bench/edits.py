@@ -24,14 +24,14 @@ FRAME = (
     "script_server::exporter::",
     "script_server::kept_export::",
     "tree_export::",
-    "pair_work::",
+    "parallel_zip::",
     "parallel_eval::",
     "scad_parser::source::",
 )
 
 # The functions that stand for each phase, by how their names begin; the longest beginning counts. The compiler puts functions
-# into their callers: most of `lex`, and of `intern` and `off_bytes` what isn't a call, stands in the functions between. That is the
-# rest, with freeing, threads, and the reply's way to the output.
+# into their callers: most of `lex`, and of `intern` and `off_bytes` what isn't a call, stands in the functions between. That is
+# the rest, with freeing, threads, and the reply's way to the output.
 PHASES = {
     # words of the source to tokens, tokens to a program, and its end
     "reading": ("scad_lexer::", "scad_parser::", "scad_expressions::"),
@@ -48,7 +48,7 @@ PHASES = {
     # the solids of leaves, and merges
     "building": ("bsp_boolean::", "bsp_partition::", "bsp_tree::", "plane_table::", "plane_polygon::"),
     "facets": ("facet_cut::",),
-    "text": ("off_text::", "text_place::decimal::"),
+    "text": ("off_text::", "plain_text::decimal::"),
 }
 
 
@@ -198,7 +198,9 @@ def phase_of(function: str) -> str | None:
 def read_costs(text: str) -> Costs:
     """The costs in what callgrind_annotate prints: in front of each function, which is marked `*`, its callers, marked `<`,
     with what their calls of it cost. Raises Failed where that has another form."""
-    row = re.compile(r"\s*(?P<cost>[\d,]+) (?:\([ \d.]+%\) )?\s*(?:PROGRAM (?P<total>TOTALS)|(?P<mark>[<*]) +[^:]*:(?P<name>.*))")
+    row = re.compile(
+        r"\s*(?P<cost>[\d,]+) (?:\([ \d.]+%\) )?\s*(?:PROGRAM (?P<total>TOTALS)|(?P<mark>[<*]) +[^:]*:(?P<name>.*))"
+    )
     total, phases, calls = 0, dict.fromkeys(PHASES, 0), 0
     for found in filter(None, map(row.match, text.splitlines())):
         cost = int(found["cost"].replace(",", ""))

@@ -8,7 +8,7 @@
 # valgrind isn't installed, which counts the instructions, times alone are printed, and the status is 3.
 set -u
 top=$(cd "$(dirname "$0")/.." && pwd) || exit 1
-program=$top/crates/scadserve/out/scadserve
+program=${SCADSERVE:-$top/crates/scadserve/out/scadserve}
 if [ ! -x "$program" ]; then
     echo "edits: 'rt ci' builds the program that this measures" >&2
     exit 2

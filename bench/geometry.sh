@@ -7,4 +7,4 @@ plain=$(mktemp)
 trap 'rm -f "$plain"' EXIT
 rustc -O -C target-cpu=x86-64-v2 -o "$plain" "$bench/sides.rs"
 "$plain"
-sh "$bench/proved.sh" geometry_program plane_polygon plane_predicate text_place anyhow
+sh "$bench/proved.sh" geometry_program plane_polygon plane_predicate plain_text anyhow

@@ -3,4 +3,4 @@
 # halves: the fastest of 20, with the growth from one to the next. Run by hand, with rt in the path.
 set -eu
 bench=$(cd "$(dirname "$0")" && pwd)
-sh "$bench/proved.sh" intern_program csg_tree plane_predicate text_place anyhow
+sh "$bench/proved.sh" intern_program csg_tree plane_predicate plain_text anyhow

@@ -5,10 +5,9 @@
     bench/maker.py --openscad [NAME ..] runs OpenSCAD too, and says where the kept numbers aren't those of its STL
     bench/maker.py --keep [NAME ..]     runs OpenSCAD, and keeps the numbers of its STL
 
-A row is printed for each part: whether it passes, the way that it goes, its volume and OpenSCAD's, and seconds by the clock. The
-parts of NATIVE are sources in whole numbers: their boxes are OpenSCAD's and so are their volumes, to what the digits of its STL
-leave open. The others go by --by-openscad, and are within a thousandth. The status is 0 where all pass, else 1.
-"""
+A row is printed for each part: whether it passes, the way that it goes, its volume and OpenSCAD's, and seconds by the clock.
+The parts of NATIVE are sources in whole numbers: their boxes are OpenSCAD's and so are their volumes, to what the digits of its
+STL leave open. The others go by --by-openscad, and are within a thousandth. The status is 0 where all pass, else 1. """
 
 from __future__ import annotations
 
@@ -28,7 +27,9 @@ sys.path.insert(0, os.path.join(TOP, "clients"))
 
 from scadserve.solid import fouroff  # noqa: E402
 from scadserve.solid.measures import box, volume  # noqa: E402
-from scadserve.source.units import MILLIMETRE, unit_of_file  # noqa: E402
+from scadserve.openscad.included import units_said  # noqa: E402
+from scadserve.source.lengths import MILLIMETRE  # noqa: E402
+from scadserve.source.units import unit_said  # noqa: E402
 from scadserve.top import LIBRARY  # noqa: E402
 
 NATIVE = ("enclosure", "bracket", "stand", "hinge", "clip")
@@ -92,7 +93,7 @@ def _cross(a: Iterable[Fraction], b: Iterable[Fraction]) -> tuple[Fraction, ...]
 
 
 def ours(name: str, folder: str) -> tuple[Measured | None, str]:
-    """What our solid of a part measures, in the lengths of its source, None where there is none; and what is told of it."""
+    """What our solid of a part measures, in the lengths of its source, None where there is none; and what is said about it."""
     out = os.path.join(folder, f"{name}.4off")
     words = [os.path.join(TOP, "bin", "scad2off"), source_of(name), "-o", out]
     done = subprocess.run([*words, *(["--by-openscad"] if name in BY_OPENSCAD else [])], capture_output=True, check=False)
@@ -100,7 +101,7 @@ def ours(name: str, folder: str) -> tuple[Measured | None, str]:
     if done.returncode:
         return None, said
     # (a length of the text, in those of the source: that of --by-openscad is told in millimetres)
-    unit = unit_of_file(source_of(name)) or MILLIMETRE
+    unit = unit_said(units_said(source_of(name))) or MILLIMETRE
     told = re.search(r"off2stl --unit (\S+)", said)
     length = Fraction(told[1]) / unit if told else MILLIMETRE
     with open(out, "rb") as it:
@@ -120,7 +121,9 @@ def differences(name: str, our: Measured, their: Measured) -> list[str]:
     for axis, (low, high), (their_low, their_high) in zip("xyz", our.ends, their.ends):
         most = [_left_open(it) if is_native else SHARE * (their_high - their_low) for it in (their_low, their_high)]
         if abs(low - their_low) > most[0] or abs(high - their_high) > most[1]:
-            found.append(f"{axis} from {float(low):g} to {float(high):g}, and from {float(their_low):g} to {float(their_high):g} there")
+            found.append(
+                f"{axis} from {float(low):g} to {float(high):g}, and from {float(their_low):g} to {float(their_high):g} there"
+            )
     return found
 
 
@@ -139,11 +142,16 @@ def kept() -> dict[str, Measured]:
 def keep(measured: dict[str, Measured]) -> None:
     """Writes the kept numbers."""
     with open(KEPT, "w", encoding="ascii") as it:
-        it.write("# Of the STL that OpenSCAD 2021.01 writes: part, volume, how far its digits leave that open, x, y and z from and to.\n")
+        it.write("# Of the STL that OpenSCAD 2021.01 writes: part, volume, how far its digits leave that open, x, y and z from "
+                 "and to.\n")
         for name in PARTS:
             if name in measured:
                 total, within, ends = measured[name]
-                it.write(" ".join([name, str(total), f"{float(within):.3g}", *(f"{float(end):.6g}" for axis in ends for end in axis)]) + "\n")
+                it.write(
+                    " ".join(
+                        [name, str(total), f"{float(within):.3g}", *(f"{float(end):.6g}" for axis in ends for end in axis)]
+                    ) + "\n"
+                )
 
 
 def main() -> int:
@@ -175,7 +183,8 @@ def main() -> int:
             is_good &= not found
             shown = "" if our is None else f"{float(our.volume):.9g}"
             way = "whole numbers" if name in NATIVE else "--by-openscad"
-            print(f"| {name} | {way} | {'; '.join(found) or 'yes'} | {shown} | {float(known[name].volume):.9g} | {took:.1f} | {their_time} |", flush=True)
+            print(f"| {name} | {way} | {'; '.join(found) or 'yes'} | {shown} | {float(known[name].volume):.9g} | {took:.1f} | "
+                  f"{their_time} |", flush=True)
     return 0 if is_good else 1
 
 

@@ -5,4 +5,4 @@
 # caller fill at the end of the list, so that each fill goes by them. Run by hand, with rt in the path.
 set -eu
 bench=$(cd "$(dirname "$0")" && pwd)
-sh "$bench/proved.sh" memo_program memo_core text_place anyhow
+sh "$bench/proved.sh" memo_program memo_core plain_text anyhow

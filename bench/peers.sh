@@ -5,10 +5,10 @@
 # parts of the demonstration. A chain of 60 such tetrahedra is beyond the program's limits of size. The proved program is run by
 # itself, not by ./scadserve, 50 times, and `openscad` once; what the program's own start takes, which is in each of its
 # times, is the first row's. Where valgrind is installed, the program's instructions stand beside it, which a load changes
-# little. Run by hand, after `rt ci` has built the program.
+# little. Run by hand, after `rt ci` has built the program, or with SCADSERVE as the name of another one.
 set -u
 top=$(cd "$(dirname "$0")/.." && pwd) || exit 1
-program=$top/crates/scadserve/out/scadserve
+program=${SCADSERVE:-$top/crates/scadserve/out/scadserve}
 if [ ! -x "$program" ]; then
     echo "peers: 'rt ci' builds the program that this times" >&2
     exit 2
@@ -22,7 +22,7 @@ work=$(mktemp -d) || exit 1
 trap 'rm -rf "$work"' EXIT
 trap 'exit 1' HUP INT TERM
 
-# The processor milliseconds of a command, of one run of so many; the last run's words are kept.
+# The processor milliseconds of a command, of one run of this many; the last run's words are kept.
 milliseconds() {
     turns=$1
     shift
@@ -63,10 +63,13 @@ both() {
         exit 1
     fi
     awk -v name="$1" -v ours="$ours" -v count="$(instructions)" -v theirs="$theirs" -v said="$said" \
-        'BEGIN { printf "%-28s %8s ms %8s %8.0f ms %7.0f  %s\n", name, ours, count, theirs, theirs / (ours > 0.1 ? ours : 0.1), said }'
+        'BEGIN {
+            times = theirs / (ours > 0.1 ? ours : 0.1)
+            printf "%-28s %8s ms %8s %8.0f ms %7.0f  %s\n", name, ours, count, theirs, times, said
+        }'
 }
 
-# Writes the source of a chain of so many tetrahedra, each of four points by the module of these lines, and each joined to
+# Writes the source of a chain of this many tetrahedra, each of four points by the module of these lines, and each joined to
 # those before it.
 tetrahedra() {
     cat >"$work/part.scad" <<END

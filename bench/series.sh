@@ -9,7 +9,7 @@ set -eu
 bench=$(cd "$(dirname "$0")" && pwd)
 if [ $# -eq 0 ]; then
     export MEASURE=series.sh
-    exec sh "$bench/proved.sh" series_program bsp_boolean bsp_tree csg_tree facet_cut off_text plane_predicate text_place anyhow
+    exec sh "$bench/proved.sh" series_program bsp_boolean bsp_tree csg_tree facet_cut off_text plane_predicate plain_text anyhow
 fi
 program=$1
 . "$bench/../memory.sh"

@@ -21,7 +21,7 @@ client() {
     echo "$1 put 2 for (i = [1 : 100]) part(i);"
 }
 
-# The least time in milliseconds of three runs of a script on so many processors.
+# The least time in milliseconds of three runs of a script on this many processors.
 least() {
     script=$1
     processors=$2
@@ -54,7 +54,8 @@ first=
 for processors in 1 2 4; do
     time=$(least "$work/eight" $processors --workers $processors)
     [ -n "$first" ] || first=$time
-    echo "8 clients, $processors workers each, $processors processors:       $time ms, $(ratio "$first" "$time") times as fast as on 1"
+    faster=$(ratio "$first" "$time")
+    echo "8 clients, $processors workers each, $processors processors:       $time ms, $faster times as fast as on 1"
 done
 cp "$work/one" "$work/again"
 for _turn in 1 2 3 4 5 6 7 8 9 10; do echo "a export"; done >>"$work/again"

@@ -4,4 +4,4 @@
 # rt in the path.
 set -eu
 bench=$(cd "$(dirname "$0")" && pwd)
-sh "$bench/proved.sh" solids_program bsp_boolean bsp_tree csg_tree plane_polygon plane_predicate text_place anyhow
+sh "$bench/proved.sh" solids_program bsp_boolean bsp_tree csg_tree plane_polygon plane_predicate plain_text anyhow

@@ -4,7 +4,7 @@
     bench/tiles.py chance [--count N] [--seed N] [--least N] [--most N]   # designs by chance, each in three ways if that can be
     bench/tiles.py growth [--most N]                                      # rows of balls with bores, at one density
 
-`chance` makes designs of the test's own kind (`clients/tests/chance.py`) of between so many planes, by two sizes of tiles,
+`chance` makes designs of the test's own kind (`clients/tests/chance.py`) of between this many planes, by two sizes of tiles,
 and as one source where that is within the limits of the server. All have to have the same areas on the same planes, exactly.
 A line is printed for each, and the last one counts them; the status is 1 where one differs.
 
@@ -25,7 +25,7 @@ sys.path.insert(0, os.path.join(os.path.dirname(os.path.dirname(os.path.realpath
 from scadserve.openscad.grid import Grid  # noqa: E402
 from scadserve.openscad.reader import CsgFault  # noqa: E402
 from scadserve.openscad.tree import DIFFERENCE, UNION, Join  # noqa: E402
-from scadserve.server.scripts import server_of_environment  # noqa: E402
+from scadserve.server.processes import server_of_environment  # noqa: E402
 from scadserve.solid import fouroff  # noqa: E402
 from scadserve.solid.surface import NotClosed  # noqa: E402
 from scadserve.solving import Solid, solve  # noqa: E402
@@ -44,7 +44,7 @@ def planes_of(grid: Grid) -> int:
     return len({it if it[:3] > (0, 0, 0) else tuple(-n for n in it) for it in planes})
 
 
-def areas_by_tiles(grid: Grid, limits: Limits) -> "tuple[object, int]":
+def areas_by_tiles(grid: Grid, limits: Limits) -> tuple[object, int]:
     """The areas on the planes of a design by tiles, and how many tiles there are."""
     found = made(grid, server_of_environment(), limits=limits)
     return chance.areas(fouroff.read(text_of(found.surface).text)), found.tiles
@@ -83,7 +83,7 @@ def by_chance(asked: argparse.Namespace) -> int:
 def row_of_balls(count: int, fragments: int = 40) -> Grid:
     """Balls with bores, in rows of a square."""
     side = round(count**0.5 + 0.499)
-    parts: "list[Grid]" = []
+    parts: list[Grid] = []
     for at in range(count):
         x, y = at % side * 150 - 75 * side, at // side * 150 - 75 * side
         bore = chance.cone((x, y, -100), 25, 25, 200, 24)

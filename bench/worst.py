@@ -15,7 +15,7 @@ import sys
 import time
 from typing import Callable, NamedTuple, Sequence
 
-#: A line of a source has at most so many bytes, so that its command fits a line of a script, and a script so many.
+#: A line of a source has at most this many bytes, so that its command fits a line of a script, and a script this many.
 LINE, SCRIPT = 1000, 1_048_576
 TETRAHEDRON = "F = [[0, 1, 2], [0, 3, 1], [1, 3, 2], [2, 3, 0]];"
 
@@ -36,7 +36,7 @@ class Run(NamedTuple):
 
 
 def repeated(text: str, count: int, separator: str = " ") -> str:
-    """A text so many times."""
+    """A text this many times."""
     return separator.join([text] * count)
 
 
@@ -46,17 +46,17 @@ def numbered(text: str, count: int, separator: str = " ") -> str:
 
 
 def entered(body: str, count: int) -> str:
-    """A module with such a body that is entered so many times."""
+    """A module with such a body that is entered this many times."""
     return f"module b() {{ {body} }} for (i = [1:{count}]) b();"
 
 
 def zeros(count: int) -> str:
-    """A list of so many zeros."""
+    """A list of this many zeros."""
     return f"[{repeated('0', count, ', ')}]"
 
 
 def hulls(points: Sequence[tuple[int, int, int]], count: int) -> str:
-    """So many hulls of points, of which the first four are a tetrahedron, one above another."""
+    """This many hulls of points, of which the first four are a tetrahedron, one above another."""
     listed = ", ".join(f"[{x}, {y}, {z}]" for x, y, z in points)
     return f"P = [{listed}];\n{TETRAHEDRON}\nfor (i = [1:{count}]) translate([0, 0, 2 * i]) hull() polyhedron(P, F);"
 
@@ -72,13 +72,13 @@ def round_points() -> list[tuple[int, int, int]]:
 
 
 def grid_hulls(count: int) -> str:
-    """So many hulls of 16 cubes each, which touch."""
+    """This many hulls of 16 cubes each, which touch."""
     cubes = "for (i = [0:3], j = [0:3]) translate([i, j, 0]) cube(1);"
     return "\n".join(f"translate([0, 0, {3 * it}]) hull() {{ {cubes} }}" for it in range(count))
 
 
 def spheres(count: int) -> str:
-    """So many hulls of 16 cubes on a sphere."""
+    """This many hulls of 16 cubes on a sphere."""
     found = []
     for number in range(count):
         cubes = []
@@ -91,7 +91,7 @@ def spheres(count: int) -> str:
 
 
 def crossing_prisms(count: int) -> str:
-    """A block without so many slanted bars."""
+    """A block without this many slanted bars."""
     bars = []
     for it in range(count):
         x, y = 200 + 37 * it % 1500, 200 + 59 * it % 1500
@@ -101,7 +101,7 @@ def crossing_prisms(count: int) -> str:
 
 
 def slanted_chain(count: int) -> str:
-    """The union of so many slanted boxes."""
+    """The union of this many slanted boxes."""
     boxes = []
     for it in range(count):
         rows = [
@@ -114,19 +114,19 @@ def slanted_chain(count: int) -> str:
 
 
 def slabs(count: int) -> str:
-    """The intersection of so many cubes."""
+    """The intersection of this many cubes."""
     cubes = [f"translate([{it}, {2 * it % 97}, {3 * it % 89}]) cube(2000);" for it in range(count)]
     return f"intersection() {{ {' '.join(cubes)} }}"
 
 
 def holes(count: int) -> str:
-    """A plate with the square of so many holes."""
+    """A plate with the square of this many holes."""
     hole = f"for (i = [0:{count - 1}], j = [0:{count - 1}]) translate([9 * i + 2, 9 * j + 2, -1]) cube([4, 4, 3]);"
     return f"difference() {{ cube([4000, 4000, 1]); {hole} }}"
 
 
 def grooves(count: int) -> str:
-    """A cube with so many slits across each axis, which meet."""
+    """A cube with this many slits across each axis, which meet."""
     slits = [
         "translate([2 * i + 1, -1, -1]) cube([1, 602, 602]);",
         "translate([-1, 2 * i + 1, -1]) cube([602, 1, 602]);",
@@ -136,29 +136,29 @@ def grooves(count: int) -> str:
 
 
 def thrice(count: int) -> str:
-    """A module that calls its children three times at each of so many depths."""
+    """A module that calls its children three times at each of this many depths."""
     body = "if (n > 0) m(n - 1) { children(); children(); children(); } else children();"
     return f"module m(n) {{ {body} }} m({count});"
 
 
 def each_child(count: int) -> str:
-    """A call of a module that asks for each of so many children by its index."""
+    """A call of a module that asks for each of this many children by its index."""
     return f"module m() {{ for (i = [0:$children - 1]) children(i); }} m() {{ {repeated('if (false) ;', count)} }}"
 
 
 def named_arguments(count: int) -> str:
-    """So many calls with so many arguments by name."""
+    """This many calls with this many arguments by name."""
     parameters, arguments = numbered("p#", count, ", "), numbered("p#=0", count, ", ")
     return f"module m({parameters}) {{}} for (i = [1:{count}]) m({arguments});"
 
 
 def outward_names(count: int) -> str:
-    """So many assignments of a name from a thousand scopes outward."""
+    """This many assignments of a name from a thousand scopes outward."""
     return f"x = 1; for ({numbered('i# = [0:0]', 1000, ', ')}) {{ {numbered('a#=x;', count)} }}"
 
 
 def loop_variables(count: int) -> str:
-    """A loop of so many variables, each of which looks a name up from outside them all."""
+    """A loop of this many variables, each of which looks a name up from outside them all."""
     return f"x = 0; for ({numbered('i#=[x:x]', count, ', ')}) cube(1);"
 
 
@@ -168,12 +168,12 @@ def called_sum(count: int) -> str:
 
 
 def carried_lists(count: int) -> str:
-    """So many recursive calls that carry a long list."""
+    """This many recursive calls that carry a long list."""
     return f"a = {zeros(4000)}; function f(n, v) = n == 0 ? v : f(n - 1, v); {numbered('x#=f(50, a);', count)}"
 
 
 def deep_children(count: int) -> str:
-    """So many calls whose children are called from 30 depths."""
+    """This many calls whose children are called from 30 depths."""
     return f"module m(n) {{ if (n > 0) m(n - 1) children(); else children(); }} for (i = [1:{count}]) m(30) ;"
 
 
@@ -183,8 +183,12 @@ FAMILIES = {
     "block-entries": Family(
         "a module with n definitions, n times", lambda n: entered(numbered("function f#() = 0;", n), n), (5000, 10000, 20000)
     ),
-    "block-empties": Family("a module with n empty statements, n times", lambda n: entered(repeated(";", n), n), (10000, 20000, 40000)),
-    "block-skipped": Family("a module with n marks `*`, n times", lambda n: entered(repeated("*cube();", n), n), (10000, 20000, 40000)),
+    "block-empties": Family(
+        "a module with n empty statements, n times", lambda n: entered(repeated(";", n), n), (10000, 20000, 40000)
+    ),
+    "block-skipped": Family(
+        "a module with n marks `*`, n times", lambda n: entered(repeated("*cube();", n), n), (10000, 20000, 40000)
+    ),
     "assigns": Family("n assignments, n / 4 times", lambda n: entered(numbered("v#=0;", n), n // 4), (2500, 5000, 10000)),
     "same-name": Family("n assignments of one name", lambda n: numbered("x=#;", n), (20000, 40000, 80000)),
     "names-outward": Family("names from a thousand scopes outward", outward_names, (5000, 10000, 20000)),
@@ -192,11 +196,17 @@ FAMILIES = {
     "sum": Family("a sum of n ones", lambda n: f"x = {repeated('1', n, ' + ')};", (50000, 100000, 200000)),
     "sum-called": Family("a sum of n ones, n / 10 times", called_sum, (5000, 10000, 20000)),
     "list-equal": Family(
-        "n comparisons of a list of 4,000", lambda n: f"a = {zeros(4000)}; b = {repeated('a==a', n, ' && ')};", (5000, 10000, 20000)
+        "n comparisons of a list of 4,000",
+        lambda n: f"a = {zeros(4000)}; b = {repeated('a==a', n, ' && ')};",
+        (5000, 10000, 20000),
     ),
     "list-add": Family("a sum of n such lists", lambda n: f"a = {zeros(4000)}; b = {repeated('a', n, ' + ')};", (6, 12, 24)),
     "list-carry": Family("such a list as an argument, 50 n times", carried_lists, (250, 500, 1000)),
-    "text": Family("n comparisons of a text of 900 bytes", lambda n: f"a = \"{'x' * 900}\"; {numbered('b#=a==a;', n)}", (10000, 20000, 40000)),
+    "text": Family(
+        "n comparisons of a text of 900 bytes",
+        lambda n: f"a = \"{'x' * 900}\"; {numbered('b#=a==a;', n)}",
+        (10000, 20000, 40000),
+    ),
     "named-args": Family("n arguments by name, n times", named_arguments, (500, 1000, 2000)),
     "deep-children": Family("children from 30 depths, n times", deep_children, (750, 1500, 3000)),
     "hull-plane": Family("n hulls of 128 points, 127 on one plane", lambda n: hulls(flat_points(), n), (1, 2, 4, 8, 128, 512)),
@@ -228,10 +238,12 @@ def script(source: str) -> str:
 
 
 def run(program: str, text: str, limit: float) -> Run:
-    """What one worker makes of a script, within so many seconds."""
+    """What one worker makes of a script, within this many seconds."""
     began = time.monotonic()
     try:
-        done = subprocess.run([program, "run", "--workers", "1"], input=text.encode(), capture_output=True, timeout=limit, check=False)
+        done = subprocess.run(
+            [program, "run", "--workers", "1"], input=text.encode(), capture_output=True, timeout=limit, check=False
+        )
     except subprocess.TimeoutExpired:
         return Run(None, f"more than {limit:g} s")
     return Run(time.monotonic() - began, answer(done.stdout, text.count("\n")) or f"status {done.returncode}")
@@ -274,7 +286,7 @@ def main() -> int:
     asked = parser.parse_intermixed_args()
     unknown = [it for it in asked.families if it not in FAMILIES]
     if unknown:
-        parser.error(f"{unknown[0]} is no family; there are {', '.join(FAMILIES)}")
+        parser.error(f"{unknown[0]} is not a family; there are {', '.join(FAMILIES)}")
     print("| Family | n | Bytes | s | Growth | Answer |\n|---|---|---|---|---|---|", flush=True)
     for name in asked.families or FAMILIES:
         for number, row in enumerate(rows(asked.program, name, asked.limit)[-1 if asked.largest else 0 :]):

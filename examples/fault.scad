@@ -1,2 +1,2 @@
-// the point of a number in it is no whole number
+// a number below has a point, and is not whole
 cube([1,2.5,3]);

@@ -30,7 +30,7 @@ function _whole_arc(c, x, y, p, q) = concat(_arc(c, x, y, p, q), [_at(x, y, p, q
 
 module _test(r, corners) {
   assert(corners == 8 || corners == 12 || corners == 16 || corners == 20, "corners is 8, 12, 16 or 20");
-  assert(r >= (corners == 8 ? 3 : corners == 12 ? 4 : corners == 16 ? 7 : 12), "the radius is too small for so many corners");
+  assert(r >= (corners == 8 ? 3 : corners == 12 ? 4 : corners == 16 ? 7 : 12), "the radius is too small for this many corners");
 }
 
 // a disc in the plane, for linear_extrude and for bars

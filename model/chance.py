@@ -310,7 +310,7 @@ class Maker:
         return made
 
     def module_call(self, depth: int, children: bool) -> str:
-        """A call whose braces may hold what is no child."""
+        """A call whose braces may hold what is not a child."""
         name = self.usually(MODULES[:3], (*MODULES, *LEFT_OUT, *FUNCTIONS))
         parameters = self.modules.setdefault(name, self.parameters()) if name in MODULES else ()
         body = self.one_of(";", lambda: self.body(depth + 1, children))

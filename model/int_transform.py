@@ -83,7 +83,7 @@ quarter_rotation = (
 
 
 def power_of(m: Affine, n: int) -> Affine:
-    """A map done so many times."""
+    """A map done this many times."""
     return map_of([m] * n)
 
 

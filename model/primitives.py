@@ -24,8 +24,8 @@ class Mesh(NamedTuple):
 def triangle_in(points: Sequence[Coordinates]) -> tuple[Coordinates, Coordinates, Coordinates] | None:
     """Three points that are not on one line, where there are some: then there is a third for the first two different ones."""
     different = [p for p in points if p != points[0]]
-    apart = [r for r in different if not are_collinear(points[0], different[0], r)]
-    return (points[0], different[0], apart[0]) if apart else None
+    apart = next((r for r in different if not are_collinear(points[0], different[0], r)), None)
+    return None if apart is None else (points[0], different[0], apart)
 
 
 def points_of_faces(mesh: Mesh) -> list[Coordinates]:
@@ -34,7 +34,8 @@ def points_of_faces(mesh: Mesh) -> list[Coordinates]:
 
 
 def has_none_ahead(m: Coefficients, points: Sequence[Coordinates]) -> bool:
-    return all(value(m, p) <= 0 for p in points)
+    a, b, c, d = m
+    return all(a * x + b * y + c * z <= d * w for x, y, z, w in points)
 
 
 def plane_of_face(mesh: Mesh, face: Sequence[int], points: Sequence[Coordinates]) -> Coefficients | None:
@@ -194,7 +195,8 @@ def has_corner(points: Points) -> bool:
 
 def goes_left(points: Points) -> bool:
     """No point lies strictly to the right of a way from a point to the next."""
-    return all(orientation(p, q, r) >= 0 for p, q in zip(points, [*points[1:], points[0]]) for r in points)
+    ways = [(x, y, u - x, v - y) for (x, y), (u, v) in zip(points, [*points[1:], points[0]])]
+    return all(u * (b - y) >= v * (a - x) for x, y, u, v in ways for a, b in points)
 
 
 def is_convex_polygon(points: Points) -> bool:

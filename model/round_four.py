@@ -35,7 +35,7 @@ faces_from_apex = ((0, 2, 1), (0, 3, 2), (0, 4, 3), (0, 1, 4), (1, 2, 3, 4))
 
 
 def cylinder_faces(a: int, b: int) -> Faces:
-    """The faces of a cylinder whose ends have the radii a and b: an end whose radius is 0 is no face."""
+    """The faces of a cylinder whose ends have the radii a and b: an end whose radius is 0 is not a face."""
     return faces_from_apex if a == 0 else faces_to_apex if b == 0 else faces_of_two
 
 

@@ -14,7 +14,7 @@ is_left_out_function = frozenset((
 
 
 def takes_count(name: bytes, n: int) -> bool:
-    """Whether a function takes so many arguments."""
+    """Whether a function takes this many arguments."""
     if name in (b"min", b"max"):
         return n > 0
     return True if name == b"concat" else n == 2 if name == b"pow" else n == 1

@@ -78,7 +78,7 @@ def parameter_names(params: Sequence[ParamTerm]) -> list[bytes]:
 
 
 def parameter_taken_by(names: Sequence[bytes], positional: int, arg: ArgTerm) -> int | None:
-    """The number of the parameter that an argument takes after so many positional ones. A special argument takes none."""
+    """The number of the parameter that an argument takes after this many positional ones. A special argument takes none."""
     if isinstance(arg, PositionalTerm):
         return positional if positional < len(names) else None
     return names.index(arg.name) if isinstance(arg, NamedTerm) and arg.name in names else None
@@ -92,7 +92,7 @@ class Arguments(NamedTuple):
 
 
 def no_arguments_of(count: int) -> Arguments:
-    """Before the first argument of so many parameters."""
+    """Before the first argument of this many parameters."""
     return Arguments([None] * count, {})
 
 

@@ -46,10 +46,10 @@ def join(op: str, left: DesignTree, right: DesignTree) -> DesignTree:
 def balanced_join(op: str, designs: Sequence[DesignTree]) -> DesignTree:
     """Designs joined by halves: none is empty, one itself, and more the join of the first half of them, rounded down, and the
     rest. Of many that are all empty, that is told at once."""
+    if len(designs) == 1:
+        return designs[0]
     if all(design is empty for design in designs):
         return empty
-    if len(designs) <= 1:
-        return designs[0]
     half = len(designs) // 2
     return join(op, balanced_join(op, designs[:half]), balanced_join(op, designs[half:]))
 

@@ -45,6 +45,7 @@ class InnerScope:
 
 
 Env = InnerScope
+nothing_defined: dict[bytes, Any] = {}  # (no scope's definitions are changed)
 
 
 class Activation(NamedTuple):
@@ -128,7 +129,7 @@ class ExpressionContext(NamedTuple):
 
 
 def expression_with_calls_left(here: ExpressionContext, calls: int) -> ExpressionContext:
-    """The same place with so many calls left."""
+    """The same place with this many calls left."""
     return ExpressionContext(here.evaluations, calls, here.env, here.bindings, here.counts)
 
 
@@ -139,8 +140,9 @@ def in_scope(here: ExpressionContext, env: Env) -> ExpressionContext:
 
 def with_more_bindings(here: ExpressionContext, dynamic: dict[bytes, Val]) -> ExpressionContext:
     """With more special names in front."""
-    bindings = {**here.bindings, **dynamic} if dynamic else here.bindings
-    return ExpressionContext(here.evaluations, here.calls_left, here.env, bindings, here.counts)
+    if not dynamic:
+        return here
+    return ExpressionContext(here.evaluations, here.calls_left, here.env, {**here.bindings, **dynamic}, here.counts)
 
 
 def one_call_fewer(calls: int, at: Place) -> int:
@@ -184,7 +186,7 @@ def function_value(there: ExpressionContext, function: SourceFunction, given: Ar
     arguments stand meanwhile."""
     inside = with_more_bindings(there, given.dynamic)
     values = each_parameter(inside, function.params, given.bound)
-    scope = InnerScope(dict(zip(parameter_names(function.params), values)), {}, {}, None, there.env)
+    scope = InnerScope(dict(zip(parameter_names(function.params), values)), nothing_defined, nothing_defined, None, there.env)
     return value_at_next_depth(in_scope(inside, scope), True, function.value)
 
 
@@ -280,6 +282,9 @@ rows_of_values: dict[type, Callable[[ExpressionContext, Any], Val]] = {
 }
 
 
+terms_without_parts = frozenset((NumberTerm, TextTerm, TruthTerm, UndefTerm, ChildCountTerm, SpecialTerm, NameTerm))
+
+
 def value_here(here: ExpressionContext, term: Term) -> Val:
     """An expression at its own depth."""
     return rows_of_values[type(term)](here, term)
@@ -289,8 +294,10 @@ def value_at_next_depth(here: ExpressionContext, counts: bool, term: Term) -> Va
     """What is one evaluation deeper, in the same place; its elements count, but for an operand of a unary operator."""
     if here.evaluations == 0:
         raise Fault("TooDeep", term.at)
-    deeper = ExpressionContext(here.evaluations - 1, here.calls_left, here.env, here.bindings, here.counts)
-    value = rows_of_values[type(term)](deeper, term)
+    row = rows_of_values[type(term)]
+    # (a term without parts evaluates nothing deeper)
+    value = row(here, term) if type(term) in terms_without_parts else row(
+        ExpressionContext(here.evaluations - 1, here.calls_left, here.env, here.bindings, here.counts), term)
     if counts:
         count_elements(term.at, here.counts, value)
     return value

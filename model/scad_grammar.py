@@ -29,6 +29,7 @@ terms_alone: dict[str, Callable[..., Term]] = {
     "undef": UndefTerm, lexer.child_count_class: ChildCountTerm, "true": lambda at: TruthTerm(at, True),
     "false": lambda at: TruthTerm(at, False)}
 levels = (("||",), ("&&",), ("==", "!="), ("<", "<=", ">", ">="), ("+", "-"), ("*", "/", "%"))
+level_of = {op: level for level, ops in enumerate(levels) for op in ops}
 
 
 class Parser:
@@ -153,13 +154,15 @@ class Parser:
         return self.postfix(depth)
 
     def chain(self, level: int, depth: int) -> Term:
-        if level == len(levels):
-            return self.unary(depth)
-        first, links = self.chain(level + 1, depth), []
-        while self.kind() in levels[level]:
-            token = self.single_token(self.kind(), depth)
-            links.append(LinkTerm(token.kind, token.at, self.chain(level + 1, depth)))
-        return ChainTerm(first.at, first, links) if links else first
+        """Operands of a level or those behind it, with the operators between them: the last level first."""
+        first = self.unary(depth)
+        while level <= level_of.get(self.kind(), -1):
+            at, links = level_of[self.kind()], []
+            while self.kind() in levels[at]:
+                token = self.single_token(self.kind(), depth)
+                links.append(LinkTerm(token.kind, token.at, self.chain(at + 1, depth)))
+            first = ChainTerm(first.at, first, links)
+        return first
 
     def expr(self, depth: int) -> Term:
         test = self.chain(0, depth)

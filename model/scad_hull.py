@@ -29,18 +29,42 @@ def supporting_plane(points: Sequence[Coordinates], triple: Sequence[int]) -> Co
     return m
 
 
+def is_surrounded(points: Sequence[Coordinates], i: int, j: int) -> bool:
+    """Whether points are seen on all sides of the line through two of them, so that no plane through it has all of them on one
+    side: beyond both ends of the angle that the points before make, which is at most a half turn."""
+    x, y, z, _ = points[i]
+    u, v, w = points[j].x - x, points[j].y - y, points[j].z - z
+    low = high = None
+    for p in points:
+        a, b, c = p.x - x, p.y - y, p.z - z
+        if low is None or high is None:
+            first = (v * c - w * b, w * a - u * c, u * b - v * a)
+            low = high = first if any(first) else None
+            continue
+        is_low = low[0] * a + low[1] * b + low[2] * c < 0
+        is_high = high[0] * a + high[1] * b + high[2] * c > 0
+        if is_low and is_high:
+            return True
+        if is_low:
+            low = (v * c - w * b, w * a - u * c, u * b - v * a)
+        elif is_high:
+            high = (v * c - w * b, w * a - u * c, u * b - v * a)
+    return False
+
+
 def faces_of_hull(points: Points) -> Faces:
     """The supporting triples in ascending order, of equal planes the first alone."""
     places = [point_at(list(p)) for p in points]
     faces: list[tuple[int, ...]] = []
-    planes: list[frozenset[int]] = []
-    for triple in combinations(range(len(places)), 3):
-        if any(on.issuperset(triple) for on in planes):
+    known: set[tuple[int, ...]] = set()  # the triples on the planes of these faces
+    for i, j in combinations(range(len(places)), 2):
+        if is_surrounded(places, i, j):
             continue
-        m = supporting_plane(places, triple)
-        if m is not None:
-            faces.append(triple)
-            planes.append(frozenset(i for i, p in enumerate(places) if value(m, p) == 0))
+        for triple in ((i, j, k) for k in range(j + 1, len(places))):
+            m = None if triple in known else supporting_plane(places, triple)
+            if m is not None:
+                faces.append(triple)
+                known.update(combinations([i for i, p in enumerate(places) if value(m, p) == 0], 3))
     return faces
 
 

@@ -90,10 +90,8 @@ def bytes_written(inside: bytes) -> bytes:
     return bytes(written)
 
 
-def word_meaning(kind: str, word: bytes, at: Place) -> Token | None:
-    """The token that a word makes at a place, if it makes one."""
-    if kind == "Blank":
-        return None
+def word_meaning(kind: str, word: bytes, at: Place) -> Token:
+    """The token that a word makes at a place, which is no blank."""
     if kind == "Name":
         name = word.decode("ascii")
         return Token(name if name in reserved else name_class, at, word)
@@ -121,16 +119,16 @@ def place_after(place: Place, word: bytes) -> Place:
 def lexes(text: bytes) -> list[Token]:
     """What a whole source gives: its tokens, or its first fault."""
     tokens, at, offset = [], Place(1, 1), 0
-    while offset < len(text):
-        found = word_of_bytes.match(text, offset)
-        if found is None:
-            raise Fault("BadCharacter", at)
-        word = found.group()
-        try:
-            token = word_meaning(str(found.lastgroup), word, at)
-        except BadWord as bad:
-            raise Fault(bad.kind, place_after(at, word[:bad.before])) from None
-        if token is not None:
-            tokens.append(token)
+    for found in word_of_bytes.finditer(text):
+        if found.start() != offset:
+            break
+        kind, word = str(found.lastgroup), found.group()
+        if kind != "Blank":
+            try:
+                tokens.append(word_meaning(kind, word, at))
+            except BadWord as bad:
+                raise Fault(bad.kind, place_after(at, word[:bad.before])) from None
         at, offset = place_after(at, word), found.end()
+    if offset < len(text):
+        raise Fault("BadCharacter", at)
     return [*tokens, Token(end_class, at, b"")]

@@ -3,7 +3,7 @@ counted."""
 
 from __future__ import annotations
 
-from typing import Callable, Iterable, NamedTuple, Sequence, TypeVar
+from typing import Iterable, NamedTuple, Sequence, TypeVar
 
 from .int_transform import image, map_of
 from .plane_predicate import point_at
@@ -18,7 +18,7 @@ from .scad_definitions import (
 from .scad_design import ALeaf, DesignTree, JoinedDesigns, balanced_join, empty, join_children, moved_design_tree, stays_safe
 from .scad_func import (
     Activation, Counts, Env, ExpressionContext, InnerScope, activation_in, each_argument, each_parameter, entered_scope,
-    most_calls, most_evaluations, one_call_fewer, outcome_of_answer, turn, value_at_next_depth, visible_module)
+    most_calls, most_evaluations, nothing_defined, one_call_fewer, outcome_of_answer, turn, value_at_next_depth, visible_module)
 from .scad_hull import Hull, hull_of, hull_stop
 from .scad_modules import (
     AFlat, AHull, AJoin, AMove, AnExtrusion, ASolid, Call, CircleCall, CubeCall, CylinderCall, EffectCall, NoGeometry,
@@ -158,12 +158,11 @@ def inside_scope(here: Context, env: Env) -> Context:
 
 def with_bindings(here: Context, dynamic: dict[bytes, Val]) -> Context:
     """The same context with more dynamic bindings in front."""
-    bindings = {**here.bindings, **dynamic} if dynamic else here.bindings
-    return Context(here.calls_left, here.env, bindings, here.inside, here.under_root)
+    return Context(here.calls_left, here.env, {**here.bindings, **dynamic}, here.inside, here.under_root) if dynamic else here
 
 
 def with_calls_left(here: Context, calls: int) -> Context:
-    """The same context with so many calls left."""
+    """The same context with this many calls left."""
     return Context(calls, here.env, here.bindings, here.inside, here.under_root)
 
 
@@ -269,7 +268,7 @@ def body_design(evaluator: Evaluator, op: str, here: Context, body: BodyTerm) ->
 
 def in_loop(here: Context, name: bytes, value: Val) -> Context:
     """A variable of a loop, in a scope of its own."""
-    return inside_scope(here, InnerScope({name: value}, {}, {}, None, here.env))
+    return inside_scope(here, InnerScope({name: value}, nothing_defined, nothing_defined, None, here.env))
 
 
 def each_iteration(evaluator: Evaluator, loop: ForTerm, at: int, here: Context, members: MemberDesigns) -> None:

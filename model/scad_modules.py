@@ -132,13 +132,13 @@ def numbers_in(v: Val) -> list[int] | None:
 
 
 def vector_in(n: int, v: Val) -> list[int] | None:
-    """A list of so many numbers."""
+    """A list of this many numbers."""
     numbers = numbers_in(v)
     return numbers if numbers is not None and len(numbers) == n else None
 
 
 def sides_in(n: int) -> Callable[[Val], list[int] | None]:
-    """One number for each of so many sides, or a list of so many."""
+    """One number for each of this many sides, or a list of this many."""
     return lambda v: [v] * n if type(v) is int else vector_in(n, v)
 
 
@@ -161,7 +161,7 @@ def factors_in(v: Val) -> list[int] | None:
 
 
 def points_in(n: int, v: Val) -> list[list[int]] | None:
-    """Points of so many numbers each."""
+    """Points of this many numbers each."""
     return list_in(lambda item: vector_in(n, item), v)
 
 

@@ -111,6 +111,6 @@ def script_of(text: bytes) -> Script:
 
 
 def script_fault_line(fault: ScriptFault) -> bytes:
-    """The line that tells the fault: `script L WORD`, or `script WORD` where it is no line's."""
+    """The line that tells the fault: `script L WORD`, or `script WORD` where it is not a line's."""
     number = "" if fault.line is None else f"{fault.line} "
     return f"script {number}{fault.word}\n".encode()

@@ -1,4 +1,4 @@
-"""Places and faults of a source, and how numbers are written: the crate `text_place`."""
+"""Places and faults of a source, and how numbers are written: the crates `plain_text` and `text_place`."""
 
 from __future__ import annotations
 
@@ -24,7 +24,7 @@ class Fault(Exception):
 
 
 class Refusal(Exception):
-    """What is wrong with values, by its word: whoever has their place makes it a `Fault`."""
+    """What is wrong with values, by its word: the caller that has their place makes it a `Fault`."""
 
     def __init__(self, kind: str) -> None:
         super().__init__(kind)

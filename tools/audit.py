@@ -1,12 +1,12 @@
 #!/usr/bin/env python3
-"""Lists what no clause says, and where each sentence of README's 'What is proved' has its clause: ./tools/audit.py [--check | --kit]
+"""Lists what no clause says, and where each sentence of README's 'What is proved' has its clause: ./tools/audit.py [--check |
+--kit]
 
-The list stands in docs/PROOFS.md: the public calls without a clause of the crates that the program stands on, each `unsafe`, each line
-that reaches outside, how many files of proofs and definitions have a hole or an axiom, and of each library of the kit the
-calls that these crates make, with a sum over their statements. Behind it stands the table of sentences. Without a word both
+The list stands in docs/PROOFS.md: the public calls without a clause of the crates that the program stands on, each `unsafe`,
+each line that reaches outside, how many files of proofs and definitions have a hole or an axiom, and of each library of the kit
+the calls that these crates make, with a sum over their statements. Behind it stands the table of sentences. Without a word both
 are written anew; with --check nothing is written, and the status is 1 where the page has others. With --kit the statements of
-those calls are printed with their text. Where the kit isn't there, its rows stay as they are.
-"""
+those calls are printed with their text. Where the kit isn't there, its rows stay as they are. """
 
 from __future__ import annotations
 
@@ -31,16 +31,25 @@ UNPROVED = re.compile(r"(?:^|[\s(])\?\w*(?=[\s)]|$)|\b(?:axiom|postulate)\b")
 CALL = re.compile(r"^(?P<margin>\s*)(?P<public>pub )?(?:const )?(?:unsafe )?fn (?P<name>\w+)", re.MULTILINE)
 # Each sentence of README's section, by its first words, with the clauses and laws that say it: a call and its crate.
 SENTENCES: tuple[tuple[str, tuple[tuple[str, str], ...]], ...] = (
-    ("the replies of each client are those that its own commands define", (("script_server", "serve"), ("script_server", "own_replies"))),
-    ("a source has a meaning or a first fault with its place", (("script_server", "some_meaning"), ("script_server", "one_meaning"))),
+    (
+        "the replies of each client are those that its own commands define",
+        (("script_server", "serve"), ("script_server", "own_replies")),
+    ),
+    (
+        "a source has exactly one meaning or exactly one first fault",
+        (("script_server", "serve"), ("script_server", "some_meaning"), ("script_server", "one_meaning")),
+    ),
     ("each text is a 4OFF text whose faces bound what the source means", (("script_server", "serve"),)),
-    ("each text is watertight", (("script_server", "serve"), ("script_server", "texts_of_sources_are_watertight"))),
-    ("the vertices of a text are different points", (("script_server", "serve"), ("watertight", "faces_share_no_inner_point"))),
-    ("the printed box is that of the solid", (("ray_crossings", "printed_boxes_are_those_of_solids"),)),
-    ("in general position, a way's crossings", (("ray_crossings", "crossings_tell_inside"),)),
-    ("each shape is the hull of its points", (("source_laws", "designs_are_of_hulls"),)),
-    ("of a polyhedron's closed faces, crossings", (("closed_faces", "closed_faces_have_a_winding_number"),)),
-    ("the printed tally, where it is asked for", (("script_server", "serve"),)),
+    (
+        "each text is watertight",
+        (
+            ("script_server", "serve"),
+            ("script_server", "texts_of_sources_are_watertight"),
+            ("watertight", "faces_share_no_inner_point"),
+        ),
+    ),
+    ("in general position, a straight path from a point to one outside", (("ray_crossings", "crossings_tell_inside"),)),
+    ("the printed tally, if it was asked for", (("script_server", "serve"),)),
 )
 
 
@@ -111,7 +120,9 @@ def kit() -> Path | None:
     """The folder of the kit's libraries, by the page that `rt doc` names; None where there is no kit."""
     if not shutil.which("rt"):
         return None
-    said = subprocess.run(["rt", "doc"], stdout=subprocess.PIPE, stderr=subprocess.DEVNULL, text=True, check=False).stdout.strip()
+    said = subprocess.run(
+        ["rt", "doc"], stdout=subprocess.PIPE, stderr=subprocess.DEVNULL, text=True, check=False
+    ).stdout.strip()
     folder = Path(said).parent / "rattle"
     return folder if said and folder.is_dir() else None
 
@@ -141,7 +152,9 @@ def kit_rows(top: Path, crates: Sequence[str], folder: Path) -> list[str]:
         said = statements(top, crates, folder, library)
         names = sorted({match["name"] for it in said for match in [CALL.search(it)] if match})
         total = hashlib.sha256("\n".join(said).encode()).hexdigest()[:16]
-        rows.append(f"| the kit's `{library}` | {', '.join(f'`{it}`' for it in names)}: statements {len(said)}, SHA-256 {total}.. |")
+        rows.append(
+            f"| the kit's `{library}` | {', '.join(f'`{it}`' for it in names)}: statements {len(said)}, SHA-256 {total}.. |"
+        )
     return rows
 
 
@@ -185,7 +198,9 @@ def section(top: Path, before: str) -> str:
     unsafe = [f"`{it.path}:{it.line}`" for it in lines_with(top, crates, UNSAFE)]
     of_kit = kit_rows(top, crates, folder) if folder else [it for it in before.splitlines() if it.startswith("| the kit's ")]
     rows = ["| What is looked for | What is found |", "|---|---|"]
-    rows += [f"| public calls without a clause, in the {len(crates)} crates of the program | {listed(without_clause(top, crates))} |"]
+    rows += [
+        f"| public calls without a clause, in the {len(crates)} crates of the program | {listed(without_clause(top, crates))} |"
+    ]
     rows += [f"| `unsafe` | {listed(unsafe)} |", f"| lines that reach outside | {listed(outside)} |"]
     rows += [f"| a hole or an axiom, in {files:,} files of proofs and definitions | {listed(holes)} |", *of_kit, ""]
     rows += ["| README says | Where it is said |", "|---|---|", *sentence_rows(top), ""]

@@ -1,6 +1,7 @@
 #!/bin/sh
 # Packs the program that a green .ci/run proved and built from the sources that stand here: writes boot/, which is committed, so
-# that ./scadserve needs no kit in a clone (tools/unpack.sh). Each new one stays in the history: make it once for what is handed in.
+# that ./scadserve needs no kit in a clone (tools/unpack.sh). Each new one stays in the history: make one for each state that is
+# handed in.
 set -eu
 unset CDPATH
 top=$(dirname "$(dirname "$(readlink -f "$0")")")
@@ -41,7 +42,7 @@ xz -c --x86 --lzma2=preset=9e,dict=1MiB <"$program" >"$work/packed"
     echo
     cat "$top/tools/proved.txt"
     echo
-    echo "Whoever has the kit makes the same program again from these sources, by \`bash .ci/run\`: it proves them, builds"
+    echo "With the kit, the same program can be made again from these sources, by \`bash .ci/run\`: it proves them, builds"
     echo "crates/scadserve/out/scadserve, and fails where that is not the program that is packed here, byte for byte."
 } >"$work/PROVED"
 mv "$work/packed" "$packed"

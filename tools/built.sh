@@ -1,5 +1,5 @@
-# What is known of the program at crates/scadserve/out. Read by the starter, by .ci/run and by tools that need the program, which
-# have set `top`, the folder of the sources.
+# What is known of the program at crates/scadserve/out. Read by the starter, by .ci/run and by tools that need the program,
+# which have set `top`, the folder of the sources.
 #
 # The program is that of the sources where a line of a record holds its sum and theirs. .ci/run writes the records: one beside
 # the program, which goes where `rt ci` makes the program anew, and one for each user, so that a program is known again in
@@ -9,7 +9,7 @@ record=$program.proved
 users_record=${XDG_STATE_HOME:-${HOME:+$HOME/.local/state}}
 users_record=${users_record:+$users_record/scadserve/proved}
 
-# Runs find over the sources, with these words behind. (Where no crate has specs, say, that is no failure.)
+# Runs find over the sources, with these words behind. (Where no crate has specs, say, that is not a failure.)
 sources() {
     (cd "$top" && find crates.txt HANDLES crates/*/src crates/*/specs crates/*/proofs "$@" 2>/dev/null) || :
 }
@@ -36,7 +36,8 @@ libc_of_program() {
 sources_and() {
     one=$1
     shift
-    (cd "$top" && find "$one" crates.txt HANDLES crates -path 'crates/*/out' ! -path 'crates/*/*/out' -prune -o "$@" 2>/dev/null)
+    (cd "$top" &&
+        find "$one" crates.txt HANDLES crates -path 'crates/*/out' ! -path 'crates/*/*/out' -prune -o "$@" 2>/dev/null)
 }
 
 # What tells whether a file or folder was touched: nobody can set the last time.

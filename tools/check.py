@@ -1,12 +1,11 @@
 """Runs the tests of what stands round the proved program side by side: tools/check.sh [--jobs N] [--limit SECONDS] [MODULE..]
 
 Each file test_*.py below clients/ is a module, which runs in a process of its own, as many at a time as there are processors. A
-module with a line `ALONE = True` measures how fast something is, and runs when all others have ended. A test that takes longer than
-the limit fails, and where that doesn't end it, its process is ended. The limit is that of a machine that isn't busy: with more
-processes that want to run than processors it is as many times longer. At the end stand the tests that took longest, and what was
-skipped for want of which program, with the line that installs these on Debian. The last line says how many tests passed, failed and
-were skipped. The status is 1 where one failed or none passed.
-"""
+module with a line `ALONE = True` measures how fast something is, and runs when all others have ended. A test that takes longer
+than the limit fails, and where that doesn't end it, its process is ended. The limit is that of a machine that isn't busy: with
+more processes that want to run than processors it is as many times longer. At the end stand the tests that took longest, and
+what was skipped, and which program it lacks, with the line that installs these on Debian. The last line says how many tests
+passed, failed and were skipped. The status is 1 where one failed or none passed. """
 
 from __future__ import annotations
 
@@ -29,15 +28,17 @@ from types import FrameType
 from typing import Any, Iterable, Optional
 
 LIMIT = 120.0
-# A process is ended where its test has not ended so many seconds past its limit.
+# A process is ended where its test has not ended this many seconds past its limit.
 GRACE = 30.0
 PROCESSORS = len(os.sched_getaffinity(0))
 LONGEST = 10
 ALONE = re.compile(r"^ALONE = True$", re.MULTILINE)
-# What a test says that is skipped for want of programs.
+# What a test says that is skipped because programs are missing.
 WANTS = re.compile(r"needs ([a-z][\w-]*(?:, [a-z][\w-]*)*)")
 # The packages of Debian whose names are not those of the programs.
-PACKAGES = {"dpkg-deb": "dpkg", "man": "man-db", "nvim": "neovim", "pip": "python3-pip", "systemd-analyze": "systemd", "xz": "xz-utils"}
+PACKAGES = {
+    "dpkg-deb": "dpkg", "man": "man-db", "nvim": "neovim", "pip": "python3-pip", "systemd-analyze": "systemd", "xz": "xz-utils"
+}
 
 
 class PastLimit(BaseException):
@@ -51,8 +52,8 @@ def busy() -> float:
 
 @dataclass
 class Found:
-    """What a module's tests came to: how many passed, which failed, why each other one was skipped, how long each took, by the clock
-    and of processors, and how long all took of processors."""
+    """What a module's tests came to: how many passed, which failed, why each other one was skipped, how long each took, by the
+    clock and of processors, and how long all took of processors."""
 
     passed: int = 0
     failed: list[str] = field(default_factory=list)
@@ -178,7 +179,8 @@ class Check:
         return found
 
     def _heard(self, module: str, report: int) -> Found:
-        """What a module's process reports in the end; where it doesn't, the test that was under way failed, and what is behind it."""
+        """What a module's process reports in the end; where it doesn't, the test that was under way failed, and what is behind
+        it."""
         heard, test, last = b"", f"{module}, before its first test", time.monotonic()
         while time.monotonic() - last < self.limit * busy() + GRACE:
             if not select.select([report], [], [], 1)[0]:
@@ -210,14 +212,17 @@ def said_at_the_end(found: Found) -> Iterable[str]:
         else:
             yield f"{count} skipped: {why}"
     if wanted:
-        yield "skipped for want of programs: " + ", ".join(f"{program} ({count})" for program, count in sorted(wanted.items()))
+        counts = (f"{program} ({count})" for program, count in sorted(wanted.items()))
+        yield "skipped because programs are missing: " + ", ".join(counts)
         yield "on Debian this installs them: apt-get install " + " ".join(sorted({PACKAGES.get(it, it) for it in wanted}))
 
 
 def check(folder: str, names: list[str], limit: float, jobs: int) -> int:
     """Runs these modules, or all, and gives the status."""
     files = sorted(Path(folder).rglob("test_*.py"))
-    modules = {".".join(it.relative_to(folder).with_suffix("").parts): bool(ALONE.search(it.read_text("utf-8"))) for it in files}
+    modules = {
+        ".".join(it.relative_to(folder).with_suffix("").parts): bool(ALONE.search(it.read_text("utf-8"))) for it in files
+    }
     chosen = [it for it in modules if not names or it in names or it.rpartition(".")[2] in names]
     began = time.monotonic()
     beside = Check(folder, limit).run([it for it in chosen if not modules[it]], jobs)

@@ -1,5 +1,6 @@
 #!/usr/bin/env python3
-"""Compares what `scad2off --by-openscad` gives with what OpenSCAD makes of the same sources: box, volume, points, closed meshes.
+"""Compares what `scad2off --by-openscad` gives with what OpenSCAD makes of the same sources: box, volume, points, closed
+meshes.
 
     tools/compare-openscad.py [--kept DIR] [FILE.scad | DIR ..]
 

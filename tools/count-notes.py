@@ -1,5 +1,6 @@
 #!/usr/bin/env python3
-"""Counts the notes of sources that OpenSCAD and the program both make solids of, and those that are false: tools/count-notes.py [FILE ..]
+"""Counts the notes of sources that OpenSCAD and the program both make solids of, and those that are false: tools/count-notes.py
+[FILE ..]
 
 Without a FILE it takes the examples and the library that OpenSCAD ships. A note is false where both solids have one volume and
 one box. What isn't a program, or has a fault or a solid on one side alone, is counted by its notes too, which nobody can tell
@@ -74,7 +75,8 @@ def main(words: list[str]) -> int:
     for it in (note for file in read for note in found[file] or []):
         print(it.told(), end="")
     count = sum(bool(found[file]) for file in read)
-    print(f"{len(files)} sources, {len(read)} read, {count} with notes; {compared} solids on both sides, {false} with a false note")
+    print(f"{len(files)} sources, {len(read)} read, {count} with notes; {compared} solids on both sides, {false} with a false "
+          f"note")
     return 0 if 100 * false <= max(compared, 1) else 1
 
 

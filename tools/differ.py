@@ -1,16 +1,18 @@
 #!/usr/bin/env python3
 """Compares the program with model/, the meaning that is run from its definitions, on sources made by chance.
 
-    tools/differ.py SECONDS SEED [--jobs N] [--server PROGRAM]
+    tools/differ.py SECONDS SEED [--jobs N] [--batches N] [--server PROGRAM]
 
-A fault is compared by its word and place. Of a solid each face is tested to be where the model's tree begins or ends, and
-points by chance to be inside or outside both; one that passes a limit of solids is only counted. What differs is made
-smaller and printed. The last line says how many sources there were. The status is 1 where something differs."""
+It ends after this many seconds, or after this many batches of 256. A fault is compared by its word and place. Of a solid
+some faces are tested to be where the model's tree begins or ends, and points by chance to be inside or outside both; one that
+passes a limit of solids is only counted. What differs is made smaller and printed. The last line says how many sources there
+were. The status is 1 where something differs, or nothing was compared."""
 
 from __future__ import annotations
 
 import argparse
 import gc
+import itertools
 import math
 import os
 import re
@@ -20,7 +22,7 @@ from collections import Counter
 from fractions import Fraction
 from multiprocessing import Pool
 from random import Random
-from typing import Iterable, NamedTuple, Sequence
+from typing import Iterable, Iterator, NamedTuple, Sequence
 
 TOP = os.path.dirname(os.path.dirname(os.path.realpath(__file__)))
 sys.path[:0] = [TOP, os.path.join(TOP, "clients")]
@@ -31,7 +33,7 @@ from model.plane_predicate import Coordinates, in_steps, opposite_of, value  # n
 from model.script_server import means, with_deep_stack  # noqa: E402
 from model.text_place import Fault as ModelFault  # noqa: E402
 from scadserve import server  # noqa: E402
-from scadserve.server.scripts import server_of_environment  # noqa: E402
+from scadserve.server.processes import server_of_environment  # noqa: E402
 from scadserve.solid import fouroff  # noqa: E402
 from scadserve.solid.crossings import IN, ON, Crossings, NoBoundary  # noqa: E402
 
@@ -69,11 +71,12 @@ def replies(program: Sequence[str], half: bool, sources: Sequence[bytes]) -> lis
 def answered(program: Sequence[str], half: bool, sources: Sequence[bytes]) -> list[server.Reply | Ended]:
     """What the program answers to each of at most 256 sources, in one run."""
     script = server.Script(half)
-    asked = []
-    for at, source in enumerate(sources):
-        client = script.client("abcdefghijklmnop"[at // EXPORTS])
-        client.source(source.split(b"\n")[:-1])
-        asked.append(("abcdefghijklmnop"[at // EXPORTS], client.export()))
+    asked: list[tuple[str, int]] = []
+    for name, first in zip("abcdefghijklmnop", range(0, len(sources), EXPORTS)):
+        client = script.client(name)
+        for source in sources[first:first + EXPORTS]:
+            client.source(source.split(b"\n")[:-1])
+            asked.append((name, client.export()))
     [answers] = server.run([script], program)
     return [answers[name][at] for name, at in asked]
 
@@ -91,14 +94,14 @@ def in_general_position(tree: Tree, chance: Random, low: Sequence[float], high: 
 def face_point(boundary: fouroff.Boundary, face: Sequence[int], chance: Random) -> Coordinates:
     """A point inside a face by chance, in units."""
     corners = [boundary.corners[corner] for corner in face]
-    weights = [Fraction(chance.randrange(1, 1000)) for _ in face]
-    x, y, z = (sum(weight * Fraction(it[i], it[3]) for weight, it in zip(weights, corners)) / sum(weights) for i in range(3))
-    w = math.lcm(x.denominator, y.denominator, z.denominator)
-    return Coordinates(int(x * w), int(y * w), int(z * w), w)
+    weights = [chance.randrange(1, 1000) for _ in face]
+    below = math.lcm(*(it[3] for it in corners))
+    x, y, z = (sum(weight * it[i] * (below // it[3]) for weight, it in zip(weights, corners)) for i in range(3))
+    return Coordinates(x, y, z, below * sum(weights))
 
 
 def wrong_face(tree: Tree, half: bool, boundary: fouroff.Boundary, at: int, chance: Random) -> str | None:
-    """Why a face is not where the tree ends: it is tested at a point that is on just one plane of the tree, where one is
+    """Why a face is not where the tree ends: it is tested at a point that is on exactly one plane of the tree, where one is
     found."""
     for _ in range(4):
         point = in_steps(half, face_point(boundary, boundary.faces[at], chance))
@@ -108,7 +111,7 @@ def wrong_face(tree: Tree, half: bool, boundary: fouroff.Boundary, at: int, chan
         outwards = sum(a * b for a, b in zip(on[0][:3], boundary.planes[at][:3])) > 0
         n = on[0] if outwards else opposite_of(on[0])
         if is_on_one_face_plane(tree, n, point):
-            return None if is_boundary_at(tree, n, point) else f"face {at} is no boundary of the tree at {tuple(point)}"
+            return None if is_boundary_at(tree, n, point) else f"face {at} is not a boundary of the tree at {tuple(point)}"
     return None
 
 
@@ -164,13 +167,11 @@ def _first_line(reply: server.Reply | Ended) -> str:
     return bytes(reply).partition(b"\n")[0].decode()
 
 
-def differences(program: Sequence[str], half: bool, sources: Sequence[bytes], counts: Counter[str]) -> list[Difference]:
-    found = []
+def differences(program: Sequence[str], half: bool, sources: Sequence[bytes], counts: Counter[str]) -> Iterator[Difference]:
     for source, reply in zip(sources, replies(program, half, sources)):
         said = difference(half, source, reply, counts)
         if said is not None:
-            found.append(Difference(half, source, said))
-    return found
+            yield Difference(half, source, said)
 
 
 def shorter(source: bytes) -> Iterable[bytes]:
@@ -187,10 +188,10 @@ def smallest(program: Sequence[str], found: Difference) -> Difference:
     """A short source at which they part, from one at which they do."""
     while True:
         candidates = list(dict.fromkeys(it for it in shorter(found.source) if len(it) < len(found.source)))
-        for at in range(0, len(candidates), CLIENTS * EXPORTS):
-            left = differences(program, found.half, candidates[at:at + CLIENTS * EXPORTS], Counter())
-            if left:
-                found = min(left, key=lambda it: len(it.source))
+        for at in range(0, len(candidates), EXPORTS):
+            left = next(differences(program, found.half, candidates[at:at + EXPORTS], Counter()), None)
+            if left is not None:
+                found = left
                 break
         else:
             return found
@@ -204,10 +205,15 @@ def batch(work: tuple[Sequence[str], int, int]) -> tuple[Counter[str], list[Diff
     sources = [made_by.source(chance) for _ in range(CLIENTS * EXPORTS)]
     counts: Counter[str] = Counter()
     gc.disable()
-    found = with_deep_stack(lambda: differences(program, half, sources, counts))
+    found = with_deep_stack(lambda: list(differences(program, half, sources, counts)))
     smaller = [with_deep_stack(lambda: smallest(program, it)) for it in found[:3]]
     gc.collect()
     return counts, smaller
+
+
+def tell(found: Sequence[Difference]) -> None:
+    for it in found:
+        print(f"{'half ' if it.half else ''}{it.said}\n{it.source.decode('utf-8', 'backslashreplace')}", flush=True)
 
 
 def main(words: Sequence[str] | None = None) -> int:
@@ -215,23 +221,25 @@ def main(words: Sequence[str] | None = None) -> int:
     parser.add_argument("seconds", type=float)
     parser.add_argument("seed", type=int)
     parser.add_argument("--jobs", type=int, default=os.cpu_count() or 1)
+    parser.add_argument("--batches", type=int, help="at most this many, of 256 sources each")
     parser.add_argument("--server", nargs=1, default=server_of_environment())
     asked = parser.parse_args(words)
     until = time.monotonic() + asked.seconds
+    numbers = itertools.count() if asked.batches is None else iter(range(asked.batches))
     counts: Counter[str] = Counter()
-    differing = number = 0
+    differing = 0
     with Pool(asked.jobs) as workers:
         while time.monotonic() < until:
-            work = [(asked.server, asked.seed, number + at) for at in range(asked.jobs * 4)]
-            number += len(work)
+            work = [(asked.server, asked.seed, number) for number in itertools.islice(numbers, asked.jobs * 4)]
+            if not work:
+                break
             for counted, found in workers.imap_unordered(batch, work):
                 counts += counted
                 differing += len(found)
-                for it in found:
-                    print(f"{'half ' if it.half else ''}{it.said}\n{it.source.decode('utf-8', 'backslashreplace')}", flush=True)
+                tell(found)
     print(", ".join(f"{count} {kind}" for kind, count in counts.most_common()))
     print(f"{sum(counts.values())} sources that agree, seed {asked.seed}; {differing} that differ")
-    return 1 if differing else 0
+    return 1 if differing or not counts else 0
 
 
 if __name__ == "__main__":

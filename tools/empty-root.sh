@@ -1,6 +1,6 @@
 #!/bin/sh
-# Tries the first command of README.md on a Debian that has Python and the C library and nothing else: tools/empty-root.sh SUITE,
-# as bookworm, or bullseye, whose C library is too old. Makes that Debian in a temporary folder, clones this commit into it, and
+# Tries the first command of README.md on a Debian that has only Python and the C library: tools/empty-root.sh SUITE, as
+# bookworm, or bullseye, whose C library is too old. Makes that Debian in a temporary folder, clones this commit into it, and
 # runs the command four times as an ordinary user, with the times. Run by hand, as root; it needs debootstrap and the network.
 set -eu
 unset CDPATH

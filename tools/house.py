@@ -1,20 +1,23 @@
 #!/usr/bin/env python3
 """Keeps the crates in their layers, and docs/ARCHITECTURE.md in step with them: ./tools/house.py [--write] [--gate LOG]
 
-crates.txt has a section for each layer, lowest first, headed by a comment `# layer: what it is for`, and below it maybe another one,
-`# must not know: layer, layer`. A crate stands on crates of its own layer or of lower ones, and none that it reaches by way of
-others either is of a layer that its own must not know. The page's picture of the layers and its table of crates are made from that
-file and from the first sentence of each crate's root file; with --write they are made anew. Each fault is a line on standard output:
+crates.txt has a section for each layer, lowest first, headed by a comment `# layer: what it is for`, and below it maybe another
+one, `# must not know: layer, layer`. A crate stands on crates of its own layer or of lower ones, and none that it reaches by
+way of others either is of a layer that its own must not know. The page's picture of the layers and its table of crates are made
+from that file and from the first sentence of each crate's root file; with --write they are made anew. Each fault is a line on
+standard output:
 
 - a crate that stands on one of a higher layer, on itself by way of others, or in no layer, or that says nothing of itself;
 - a crate that reaches one of a layer that its own must not know, and such a layer that is none of the lower ones;
 - a chain of more than ten crates;
-- a crate that stands on a library of the kit other than those that are named here: a contract says what a call does with what it is
-  given, and some libraries reach files and streams by number, which no call is given;
+- a crate that stands on a library of the kit other than those that are named here: a contract says what a call does with what
+  it is given, and some libraries reach files and streams by number, which no call is given;
+- an import across crates of what stands in `proofs` outside of its folder `lemmas`, which alone is shared, and such a file
+  that no crate above imports;
 - a picture or table that is out of date;
-- a name that the page has in backticks and that is no crate, file, word of a contract or function of the sources;
-- with --gate, which names what a run of `rt ci` printed: a crate that was proved there and of which crates.txt gives another number
-  of functions that may wait (`may_wait=`, and none where there are none).
+- a name that the page has in backticks and that is not a crate, file, word of a contract or function of the sources;
+- with --gate, which names what a run of `rt ci` printed: a crate that was proved there and of which crates.txt gives another
+  number of functions that may wait (`may_wait=`, and none where there are none).
 
 The status is 1 where there is a fault that --write has not mended, and 2 at wrong words.
 """
@@ -33,6 +36,8 @@ MOST_IN_A_CHAIN = 10
 OF_THE_KIT = frozenset(("clap", "hex", "indexmap", "itoa", "lru", "sha2", "smallvec"))
 HEAD = re.compile(r"# (?P<name>[a-z ]+): (?P<purpose>.+)")
 BOUND = "# must not know: "
+#: A name of a crate's proofs, as an import or a tactic has it.
+OF_PROOFS = re.compile(r"\b(\w+)(?:\.|::)proofs(?:\.|::)(lemmas(?:\.|::))?(\w+)")
 #: What the page has between these two lines is made by this tool.
 MADE = re.compile(r"(?P<begin><!-- made by tools/house\.py: (?P<what>\w+) -->\n)(?P<text>.*?)(?P<end><!-- end -->)", re.DOTALL)
 #: A name of the sources, as the page has it: at least two words, so that a word of a language is none.
@@ -41,8 +46,8 @@ NAME = re.compile(r"`([a-z][a-z0-9]*(?:_[a-z0-9]+)+)`")
 
 @dataclass
 class Crate:
-    """A line of crates.txt: the crate's name, its layer from 0, what it stands on, libraries of the kit among them, and how many of
-    its functions may wait."""
+    """A line of crates.txt: the crate's name, its layer from 0, what it stands on, libraries of the kit among them, and how
+    many of its functions may wait."""
 
     name: str
     layer: int
@@ -52,8 +57,8 @@ class Crate:
 
 @dataclass
 class House:
-    """The layers with their purposes, lowest first, the crates by name in the order of the file, and by a layer's number the names
-    of those that it must not know."""
+    """The layers with their purposes, lowest first, the crates by name in the order of the file, and by a layer's number the
+    names of those that it must not know."""
 
     layers: list[tuple[str, str]] = field(default_factory=list)
     crates: dict[str, Crate] = field(default_factory=dict)
@@ -146,6 +151,23 @@ def misplaced(house: House, top: Path) -> Iterator[str]:
             yield f"crates/{crate.name}/src: the root file doesn't begin by saying what the crate is"
 
 
+def imported(house: House, top: Path) -> Iterator[str]:
+    """What crates import of the proofs of others and may not, and what is shared for nobody."""
+    shared = {(it.parent.parent.parent.name, it.stem) for it in top.glob("crates/*/proofs/lemmas/*.antt")}
+    files = [it for kind in ("src/**/*.rt", "specs/**/*.antt", "proofs/**/*.antt") for it in top.glob(f"crates/*/{kind}")]
+    for file in sorted(files):
+        own = file.relative_to(top / "crates").parts[0]
+        for crate, is_shared, name in sorted({*OF_PROOFS.findall(file.read_text(encoding="utf-8"))}):
+            if crate == own or crate not in house.crates:
+                continue
+            shared.discard((crate, name))
+            if not is_shared:
+                what = f"it imports {name} of {crate}, which stands in no folder of lemmas that are shared"
+                yield f"{file.relative_to(top)}: {what}"
+    for crate, name in sorted(shared):
+        yield f"crates/{crate}/proofs/lemmas/{name}.antt: no other crate imports it"
+
+
 def picture(house: House) -> str:
     """The layers with their crates, highest first, as a block of text."""
     wide = max(len(name) for name, _ in house.layers)
@@ -186,7 +208,7 @@ def unknown_names(page: str, house: House, top: Path) -> Iterator[str]:
     for crate in house.crates.values():
         words.update(crate.below)
     for name in sorted(set(NAME.findall(page)) - words):
-        yield f"docs/ARCHITECTURE.md: {name} is no crate, and no name of the sources"
+        yield f"docs/ARCHITECTURE.md: {name} is not a crate, and no name of the sources"
 
 
 def miscounted(house: House, log: str) -> Iterator[str]:
@@ -215,7 +237,7 @@ def main(words: list[str], top: Path = TOP) -> int:
     file = top / "docs" / "ARCHITECTURE.md"
     page = file.read_text(encoding="utf-8")
     anew = made_anew(page, house, top)
-    faults = [*misplaced(house, top), *miscounted(house, log)]
+    faults = [*misplaced(house, top), *imported(house, top), *miscounted(house, log)]
     if anew != page:
         if words:
             file.write_text(anew, encoding="utf-8")

@@ -15,9 +15,10 @@ from sources import Call, Declared
 
 WIDE = 128
 SILENT = re.compile(r"^(\s*)(?:abbrev |unfoldable )?(?:pub )?")
-# A field of a record, or a variant or a field of a type, on one line, in whose type no value stands: a statement has its own.
+# A field of a record, or a variant or a field of a type, on one line, in whose type no value stands: a statement has its own;
+# or a row of a table: an equation whose right side is one word.
 PLAIN = r"(?:[A-Zℕℤ]\w*|\([\w ]+ : [A-Zℕℤ]\w*\)|[()→ ])+"
-ALONE = re.compile(rf"\s+(?:[\w' ]+ : {PLAIN}|\w+(?:: [\w<>, ]+)?,|\w+\([^{{}}]*\),)")
+ALONE = re.compile(rf"\s+(?:[\w' ]+ : {PLAIN}|\w+(?:: [\w<>, ]+)?,|\w+\([^{{}}]*\),|\w+(?: (?:\w+|\(\w[\w ]*\)))+ = \w+)")
 # Definitions of at most this many lines stand below one another without an empty line between them.
 SHORT = 5
 
@@ -66,11 +67,13 @@ def laid_definition(definition: Definition) -> list[str]:
     if head:
         return packed(with_comments(lines, definition.comment, "--"), "--")
     signature = with_comments(lines[:first], definition.comment, "--")
-    return signature + with_comments([f"  {it}" for it in lines[first:] if not it.lstrip().startswith("unfolding ")], (), "--")
+    equations = [f"  {it}" for it in lines[first:] if not it.lstrip().startswith("unfolding ")]
+    return signature + packed(with_comments(equations, (), "--"), "--")
 
 
 def packed(lines: Sequence[str], sign: str) -> list[str]:
-    """Lines in which members without a comment share lines: fields of a record, or variants and fields of a type."""
+    """Lines in which members without a comment share lines: fields of a record, variants and fields of a type, or rows of a
+    table."""
     found: list[str] = []
     joins = False
     for line, following in zip(lines, [*lines[1:], ""]):

@@ -70,7 +70,8 @@ class Reached:
             targets, depth = deeper, depth + 1
 
     def resolved(self, target: Target) -> Item | None:
-        """The definition or the type that a name leads to; none where it is the library's. Raises Failure where there is none."""
+        """The definition or the type that a name leads to; none where it is the library's. Raises Failure where there is none.
+        """
         if target.crate not in self.library.crates:
             self.words[library_word(target)] = None
             return None
@@ -114,7 +115,8 @@ def library_word(target: Target) -> str:
 
 
 def in_groups(items: Iterable[Item]) -> list[list[Item]]:
-    """Types and definitions in order, those of one group together where the first of them stands, in the order of their file."""
+    """Types and definitions in order, those of one group together where the first of them stands, in the order of their file.
+    """
     kept = list(items)
     members: dict[object, list[Item]] = {}
     for it in kept:

@@ -76,7 +76,12 @@ replies() {
 
 # The script without the commands for which memory ran out.
 answered() {
-    awk 'FNR == NR { if (left > 0) left--; else if ($2 == "nomem") gone[$1] = 1; else if ($2 == "text" || $2 == "solid") left = $3; next }
+    awk 'FNR == NR {
+            if (left > 0) left--
+            else if ($2 == "nomem") gone[$1] = 1
+            else if ($2 == "text" || $2 == "solid") left = $3
+            next
+        }
         !(FNR in gone) { print }' "$1" "$work/script"
 }
 

@@ -36,8 +36,8 @@ trap 'exit 1' HUP INT TERM
 # The folder of the release: files of the commit, the program, and what is made of them.
 here=$work/$name
 mkdir -p "$here/libexec"
-git archive HEAD README.md CHANGELOG.md CONTRIBUTING.md clients/scadserve docs examples gallery install.sh library memory.sh pyproject.toml scadserve \
-    tools/wheel.py | tar -x -C "$here"
+git archive HEAD README.md CHANGELOG.md CONTRIBUTING.md clients/scadserve docs examples gallery install.sh library memory.sh \
+    pyproject.toml scadserve tools/wheel.py | tar -x -C "$here"
 cp "$program" "$here/libexec/scadserve"
 PYTHONPATH=$here/clients python3 -B -c 'from scadserve.tools.catalogue import *; print(*STARTERS, sep="\n")' >"$here/TOOLS"
 git archive HEAD $(cat "$here/TOOLS") | tar -x -C "$here"
@@ -82,7 +82,7 @@ Description: solids of OpenSCAD sources in whole numbers, each proved to be righ
  A solid modelling server whose every answer is proved, and tools that write
  its solids as meshes and pictures.
 END
-# (what Python compiles of the modules is no file of the package)
+# (what Python compiles of the modules is not a file of the package)
 printf '#!/bin/sh\nset -e\npython3 -m compileall -q /usr/lib/scadserve/clients\n' >"$package/DEBIAN/postinst"
 printf '#!/bin/sh\nset -e\nfind /usr/lib/scadserve -depth -name __pycache__ -exec rm -r {} +\n' >"$package/DEBIAN/prerm"
 chmod +x "$package/DEBIAN/postinst" "$package/DEBIAN/prerm"

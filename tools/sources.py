@@ -9,6 +9,7 @@ from typing import Iterable, NamedTuple
 from definitions import Failure, Target, import_of, tokens_of
 
 RUST_USE = re.compile(r"^\s*(?:pub(?:\(crate\))? )?use ([^;]+);", re.MULTILINE)
+HANDED_ON = re.compile(r"^pub use (\w+)::([^;]+);", re.MULTILINE)
 # Types of the language and its library, which are written out on no page.
 LIBRARY = set("Vec Option String Result Box Arc Mutex Rc Self Clone Copy Debug PartialEq Eq Drop PhantomData Hash Ord".split())
 
@@ -143,7 +144,16 @@ class Sources:
             crate = crate if first in ("crate", "super", "self") else first
         elif not re.search(rf"\b(?:struct|enum|trait) {name}\b", text):
             return None
-        return Target("type", crate, "", name) if (self.top / "crates" / crate).is_dir() else None
+        return Target("type", self.declaring(crate, name), "", name) if (self.top / "crates" / crate).is_dir() else None
+
+    def declaring(self, crate: str, name: str) -> str:
+        """The crate that declares what a crate's root file hands on from a lower one; the crate itself where it hands on
+        nothing so."""
+        roots = [self.text(path) for path in self.files(crate) if path.name == "lib.rt"]
+        for lower, used in [it for root in roots for it in HANDED_ON.findall(root)]:
+            if re.search(rf"\b{name}\b", used) and (self.top / "crates" / lower).is_dir():
+                return self.declaring(lower, name)
+        return crate
 
 
 def imports(lines: list[str]) -> list[str]:

@@ -4,11 +4,10 @@
 
 PROMISE begins at the public call `serve`, and has its clauses and each definition that these reach by name, from above. What
 is cut there stands on ALGORITHM and TALLY, each with what it reaches beyond the pages before it; LAWS and COSTS have laws, with
-what these name beyond all that. With --check nothing is written, and the status is 1 where a page is out of date; with --list, too,
-nothing is written. With --html the same pages are written into a folder as HTML, where each name is a link.
-Each definition without a comment is a line on standard output, and then the status is 1 in any case; so it is where a crate
-has no heading, where a clause has no plain words, and where a name of the library has none.
-"""
+what these name beyond all that. With --check nothing is written, and the status is 1 where a page is out of date; with --list,
+too, nothing is written. With --html the same pages are written into a folder as HTML, where each name is a link. Each
+definition without a comment is a line on standard output, and then the status is 1 in any case; so it is where a crate has no
+heading, where a clause has no plain words, and where a name of the library has none. """
 
 from __future__ import annotations
 

@@ -16,7 +16,7 @@ from definitions import Definition, Failure, Library, Target, Token, token_at, t
 from layout import without_silent_words
 from reached import Item, library_word, member
 from sources import Call, Declared, Sources
-from statement_pages import Calls, Items, Page, Part, Statement, Words, blocks, index, pages
+from statement_pages import Calls, Page, Part, Statement, Words, blocks, index, pages
 from statement_words import LIBRARY, PAGES
 
 STYLE, SCRIPT, NAMES = "statement.css", "statement.js", "names.js"
@@ -28,7 +28,8 @@ TEMPLATE = """<!DOCTYPE html>
 <title>{title}: scadserve</title>
 <link rel="stylesheet" href="{style}">
 <header><nav>{nav}</nav>
-<div class="search"><input type="search" id="search" placeholder="Search names ( / )" aria-label="Search names" autocomplete="off">
+<div class="search">
+<input type="search" id="search" placeholder="Search names ( / )" aria-label="Search names" autocomplete="off">
 <ol id="found" hidden></ol></div><button id="theme" aria-label="Light or dark">◐</button></header>
 <main>
 {body}
@@ -80,7 +81,7 @@ class Links:
         return found if found in self.pages else None
 
     def name(self, target: Target, word: str, token: Token, user: Target) -> list[Named]:
-        """The link of a word; none where it leads to no page. Whoever has the word is noted."""
+        """The link of a word; none where it leads to no page. The one that has the word is noted."""
         if target.crate not in self.library.crates:
             address = library_address(target)
             return [Named(token.line, token.column, len(token), address)] if address else []

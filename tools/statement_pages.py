@@ -24,6 +24,7 @@ from statement_words import (
     PAGES,
     PROMISE,
     READING,
+    WORKED,
     Heading,
 )
 
@@ -310,6 +311,11 @@ def library_words(names: Iterable[str]) -> list[str]:
     return ["## Names of the library", "", *filled(FURTHER["library"]), "", *table(rows)] if found else []
 
 
+def worked_laws(statement: Statement) -> list[Call]:
+    """The laws that prove the worked example."""
+    return [it for part in statement.parts for crate, calls in part.calls if crate == WORKED[0] for it in calls]
+
+
 def blocks(statement: Statement, part: Part) -> list[Block]:
     """What stands on a page behind its head, in order. The place of its counts is empty words."""
     counts = Words([])
@@ -319,7 +325,8 @@ def blocks(statement: Statement, part: Part) -> list[Block]:
     assumed = ["## What is assumed", "", *points([f"**{name}.** {said}" for name, said in ASSUMED]), ""]
     notation = ["## How to read it", "", *filled(READING), "", *table([("Written", "Read"), *NOTATION])]
     before = [*promise_words(statement.call), Words([*assumed, *cut_words(statement)]), counts]
-    before.append(Words(["## One cube", "", *statement.example, *notation]))
+    cube = ["## One cube", "", *statement.example, *filled(WORKED[1]), ""]
+    before += [Words(cube), Calls(worked_laws(statement)), Words(notation)]
     behind = Words([*other_names(statement, part), *library_words(statement.words)])
     return [*before, *steps(statement, part), *exit_words(statement), behind]
 

@@ -23,13 +23,13 @@ HEADINGS: list[Heading] = [
         "Bytes and words",
         "Bytes as they are read and written, the numerals and names that they spell, and the words of the command line.",
         "the program's own",
-        "text_place outside_io run_words",
+        "plain_text outside_io text_place run_words",
     ),
     Heading(
         "Scripts and sessions",
         "A script is a list of clients with their commands. A session is the state of one client. A reply answers one command.",
         "the program's own",
-        "script_reader edit_session reply_text script_run big_input",
+        "script_reader edit_session export_limits reply_text script_run big_input",
     ),
     Heading(
         "Syntax",
@@ -78,7 +78,7 @@ HEADINGS: list[Heading] = [
         "Hulls, rays and costs",
         "What laws speak of beyond the promise: hulls of points, crossings of faces, and counts of evaluations.",
         "the laws'",
-        "closed_faces shape_hulls source_laws ray_crossings",
+        "closed_faces shape_hulls source_laws ray_crossings one_cube",
     ),
     Heading(
         "Statuses",
@@ -94,53 +94,52 @@ PAGES: dict[str, tuple[str, tuple[str, ...]]] = {
         "The promise",
         (
             "What `serve` promises, and each definition that a reader has to believe so that the promise says what it means.",
-            "The prover has checked that the code meets the clauses below. That the definitions say what is meant, only a"
-            " reader can judge: that is what this page is for. Whoever trusts it, with what is assumed, trusts that a "
-            "status tells what was done, that replies are those which a client's commands define but for where memory ran"
-            " out, and that each solid's text is the watertight boundary of what its source means. It needs no other page"
-            " for that.",
+            "The prover has checked that the code meets the clauses below. Only a reader can judge whether the definitions "
+            "say what is meant, and this page is for that. A reader who trusts this page, and what is assumed, can trust "
+            "three things: a status says what was done; the replies of a client are those that its commands define, except "
+            "where memory ran out; and each solid's text is the watertight boundary of what its source means. No other page "
+            "is needed for that.",
         ),
     ),
     "ALGORITHM": (
         "Which text it is",
         (
-            "Which of the texts that bound a tree is answered, and when a limit of size comes in place of a text.",
-            "A tree has many texts that bound it: faces may be cut otherwise, and vertices stand in another order. The "
-            "field `rule` of `AnswersExport` says which one is answered, as one function of the unit and the source. "
-            "Whoever only wants to know that a part is right needs none of this.",
+            "Which of the texts that bound a tree is returned, and when a limit of size comes in place of a text.",
+            "Many texts bound a tree: faces may be cut in other ways, and vertices may have another order. The field `rule` "
+            "of `AnswersExport` says which text is returned, as one function of the unit and the source. A reader who only "
+            "wants to know that a part is right needs none of this.",
         ),
     ),
     "TALLY": (
         "The tally",
         (
-            "What the printed tally tells: the memo, its journal, and what a client's entries weigh.",
-            "It is printed where `--tally` asks for it. No other byte of the output rests on this page.",
+            "What the printed tally says: the memo, its journal, and the weight of a client's entries.",
+            "It is printed if `--tally` asks for it. No other byte of the output rests on this page.",
         ),
     ),
     "LAWS": (
         "Laws",
         (
             "What follows: that the definitions leave nothing open, and what a maker may rely on in each text.",
-            "These are public calls that do nothing when they run; their clauses are proved over the definitions of the "
-            "other pages. The first ones show that these definitions can be met, and how many answers they leave: each "
-            "source has a meaning or a first fault, one alone, and one answer. So some judge of shapes is right, of which"
-            " `IsMeaning` asks.",
+            "These are public calls that do nothing when they run. Their clauses are proved over the definitions of the "
+            "other pages. The first laws show that the definitions can be met, and that they leave exactly one answer: each "
+            "source has exactly one meaning or first fault. So some judge of shapes is right, as `IsMeaning` requires.",
         ),
     ),
     "COSTS": (
         "Costs",
         (
             "How many evaluations a program's meaning takes, by its tokens and by what it counts.",
-            "These laws are of the meaning of a program, and not of the evaluator's steps: no contract ties the two.",
+            "These laws are about the meaning of a program, not about the evaluator's steps: no contract ties the two.",
         ),
     ),
 }
 
 INDEX = (
-    "The statement is what the program's proof is a proof of. It stands on five pages, which `tools/statement.py` writes "
-    "from the sources, and which a test compares with them. [PROMISE](statement/PROMISE.md) is the one to read: it has "
-    "the contract of the call `serve`, what is assumed, and each definition that a reader has to believe. The others say "
-    "more, for whoever asks more.",
+    "The statement is what the program's proof proves. It has five pages, which `tools/statement.py` writes from the "
+    "sources, and a test compares them with the sources. [PROMISE](statement/PROMISE.md) is the one to read: it has the "
+    "contract of the call `serve`, what is assumed, and each definition that a reader has to believe. The other pages say "
+    "more.",
     "A release has the same pages as HTML, in `share/doc/scadserve/docs/statement`: there each name is a link to its "
     "definition, whose comment shows under the pointer, each definition says who uses it, and there is a search. In the "
     "sources `tools/statement.py --html FOLDER` makes them.",
@@ -153,9 +152,15 @@ CUTS: tuple[Cut, ...] = (
         "AnswersExport",
         "AnswersSource",
         "ALGORITHM",
-        "which of the texts that bound the tree is answered, and which limit comes in place of one: one function of unit and source",
+        "which of the texts that bound the tree is answered, and which limit comes in place of one: one function of unit and "
+        "source",
     ),
-    Cut("TellsTally", "HaveLegalJournal", "TALLY", "where the tally is printed: it is one that a memo can have, asked call by call"),
+    Cut(
+        "TellsTally",
+        "HaveLegalJournal",
+        "TALLY",
+        "where the tally is printed: it is one that a memo can have, asked call by call",
+    ),
 )
 
 # The worked example: cases that the gate runs, each with its crate and what it shows.
@@ -185,12 +190,19 @@ EXAMPLE: tuple[tuple[str, str, str], ...] = (
     ),
 )
 
+# The crate whose laws prove the worked example, and the words before them.
+WORKED = (
+    "one_cube",
+    "And it is proved, as a law whose words stand on [LAWS](LAWS.md), from the bytes of the source to those of the text:",
+)
+
 FURTHER: dict[str, str] = {
     "steps": "`StatusTells` and what else a clause names are the first step; what these name is the second, and so on, "
     "each once. Behind a step stands what its definitions are of, and how many.",
     "exits": "The program makes the first of these calls, which hands on to the second one, and ends with the number of "
     "its status. The last lines are the program's own, and have no clause.",
-    "library": "These stand in the toolchain's library, whose own definitions say the same in full. The other pages use no others.",
+    "library": "These stand in the toolchain's library, whose own definitions say the same in full. The other pages use no "
+               "others.",
     "classes": "Lines of definitions and types with their comments, by what they are of.",
 }
 
@@ -207,6 +219,8 @@ LAWS: dict[str, dict[str, str]] = {
     "LAWS": {
         "": r"\w+",
         "csg_tree": "joins_keep_within_reach",
+        "tree_export": "a_box_has_its_text",
+        "one_cube": r"\w+",
         "scad_meaning": "programs_mean_proper_trees",
         "closed_faces": r"\w+",
         "shape_hulls": r"\w+",
@@ -233,7 +247,8 @@ PROMISE: dict[str, str] = {
     "script": "Where the source tells its bytes and these are a script, the status is not `BadScript`. This follows from "
     "`told`, by which the bytes had a fault then, and from the law that no bytes are both "
     "(`bytes_are_one_script`).",
-    "no_script": "Where a script is asked for, and the bytes have a fault, the status is not `Done`. This follows in the same way.",
+    "no_script": "Where a script is asked for, and the bytes have a fault, the status is not `Done`. This follows in the same "
+                 "way.",
 }
 
 # What is assumed, and what is not claimed.
@@ -282,7 +297,7 @@ NOTATION: list[tuple[str, str]] = [
     ("`(x : A) × P`", "there is an `x` of the type `A` with `P`; without a name, `P × Q`: both hold, or a pair"),
     ("`P ⊎ Q`", "one of the two holds"),
     ("`⊥`, `P → ⊥`", "never; `P` doesn't hold"),
-    ("`∥ P ∥₁`", "`P` holds, and no more is told of how"),
+    ("`∥ P ∥₁`", "`P` holds, and no more is said about how"),
     ("`Unit {0}`, `⊤`", "always"),
     ("`x ≡ y`, `x ≢ y`", "equal, not equal"),
     ("`f x y`", "the function `f` of `x` and `y`; `λ x. t` is the function that gives `t` for `x`"),
@@ -295,7 +310,10 @@ NOTATION: list[tuple[str, str]] = [
     ("`u8` to `u64`, `i64`, `bool`, `Vec`", "in a type of the sources: `ℕ`, `ℤ`, `Bool` and `List`"),
     ("`x.now`, `x.old`, `x.new`", "what a reference points to: in a call that changes it, before and after"),
     ("`S.left`, `K.held`", "what the trait of a source or a sink tells of one"),
-    ("`I.remaining`, `O.contents`", "the bytes that a reader of std has left, and those that a writer has taken, where it tells them"),
+    (
+        "`I.remaining`, `O.contents`",
+        "the bytes that a reader of std has left, and those that a writer has taken, where it tells them",
+    ),
     ("`mutual`, `module _ (x : A) where`", "definitions that use one another; definitions that all take `x` first"),
 ]
 
@@ -362,9 +380,9 @@ LIBRARY: dict[str, str] = {
     "flat_map": "the lists that a function gives for the items, one behind the other",
     "fold": "`fold f a xs` goes from `a` on by `f` over the items",
     "reverse": "the list from its end",
-    "take": "the first so many items",
-    "drop": "all but the first so many items",
-    "replicate": "so many times the same item",
+    "take": "the first n items",
+    "drop": "all but the first n items",
+    "replicate": "n times the same item",
     "zip": "the pairs of items at the same place, as long as both lists have one",
     "get_or": "`get_or xs i d` is the item at place `i`, from 0, and `d` where there is none",
     "slice_index": "the number at a place, from 0, and 0 where there is none",

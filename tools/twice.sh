@@ -12,7 +12,8 @@ stop() {
     exit 1
 }
 
-[ -x "$program" ] && [ -x "$program.by-rattle" ] || stop "the gate has left no programs of both compilers: run \`bash .ci/run\` first"
+[ -x "$program" ] && [ -x "$program.by-rattle" ] ||
+    stop "the gate has left no programs of both compilers: run \`bash .ci/run\` first"
 work=$(mktemp -d)
 trap 'rm -rf "$work"' EXIT
 trap 'exit 1' HUP INT TERM

@@ -105,13 +105,15 @@ put_in_place() {
 }
 
 # Unpacks the program beside its place, and puts it there in one step, so that runs at the same time don't meet. Where a folder
-# takes no file, or lets none run, there is no program afterwards.
+# takes no file, or lets none run, there is no program afterwards. What is ended meanwhile leaves no file.
 unpack_as() {
     new=$(mktemp "$1.XXXXXX" 2>/dev/null) || return 1
+    trap 'rm -f "$new"; exit 143' HUP TERM
     if chmod u+x "$new" && [ -x "$new" ] && unpack >"$new" && [ "$(sum_of "$new")" = "$boot_program" ]; then
-        mv -f "$new" "$1" && return
+        mv -f "$new" "$1" && trap - HUP TERM && return
     fi
     rm -f "$new"
+    trap - HUP TERM
     return 1
 } 2>/dev/null
 

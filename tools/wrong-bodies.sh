@@ -14,7 +14,8 @@ unset CDPATH
 
 # The sum of a crate's sources, definitions, proofs and wrong bodies.
 sum_of() {
-    find "crates/$1/src" "crates/$1/specs" "crates/$1/proofs" "crates/$1/must-fail" "wrong-bodies/$1" ! -type d -print0 2>/dev/null |
+    find "crates/$1/src" "crates/$1/specs" "crates/$1/proofs" "crates/$1/must-fail" "wrong-bodies/$1" \
+        ! -type d -print0 2>/dev/null |
         LC_ALL=C sort -z | xargs -0 sha256sum | sha256sum | cut -c 1-16
 }
 

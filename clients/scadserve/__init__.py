@@ -12,20 +12,23 @@ from __future__ import annotations
 
 from typing import TYPE_CHECKING
 
-from .server.scripts import BadScript, BadWords, Malformed, NotStarted, OutOfMemory, OutOfTime, ReadFault, ServerFailed, WriteFault
-
 if TYPE_CHECKING:
+    from .server.failures import BadScript, BadWords, Malformed, NotStarted, OutOfMemory, OutOfTime, ReadFault
+    from .server.failures import ServerFailed, WriteFault
     from .solving import Fault, Point, Solid, Source, solve
     from .source.notes import Note
 
 __all__ = ["solve", "Solid", "Fault", "Note", "Point", "Source"]
-__all__ += ["ServerFailed", "NotStarted", "BadWords", "BadScript", "ReadFault", "WriteFault", "OutOfMemory", "OutOfTime", "Malformed"]
+__all__ += [
+    "ServerFailed", "NotStarted", "BadWords", "BadScript", "ReadFault", "WriteFault", "OutOfMemory", "OutOfTime", "Malformed"
+]
 
 
 def __getattr__(name: str) -> object:
-    """What `solving` has, which is loaded only where it is asked for: the tools are quicker to start without."""
+    """What `solving` has, and how servers fail, loaded only where it is asked for: the tools are quicker to start without."""
     if name not in __all__:
         raise AttributeError(f"module {__name__!r} has no attribute {name!r}")
     from . import solving
+    from .server import failures
 
-    return getattr(solving, name)
+    return getattr(solving if hasattr(solving, name) else failures, name)

@@ -21,12 +21,19 @@ def ended(tool: Callable[[], int]) -> int:
 
     A signal that is ignored, as that of a closed terminal behind nohup, stays ignored.
     """
-    if signal.getsignal(signal.SIGINT) is signal.SIG_DFL:
-        signal.signal(signal.SIGINT, signal.default_int_handler)
-    for number in (signal.SIGTERM, signal.SIGHUP):
-        if signal.getsignal(number) is not signal.SIG_IGN:
-            signal.signal(number, _end)
+    interrupts: list[int] = []
+
+    def interrupt(number: int, _frame: object) -> NoReturn:
+        interrupts.append(number)
+        raise KeyboardInterrupt
+
+    is_ended = signal.getsignal(signal.SIGINT) is signal.SIG_DFL
     try:
+        if is_ended:
+            signal.signal(signal.SIGINT, interrupt)
+        for number in (signal.SIGTERM, signal.SIGHUP):
+            if signal.getsignal(number) is not signal.SIG_IGN:
+                signal.signal(number, _end)
         return tool()
     except BrokenPipeError:
         return PIPE_CLOSED
@@ -35,6 +42,15 @@ def ended(tool: Callable[[], int]) -> int:
     except MemoryError:
         say(f"{os.path.basename(sys.argv[0])}: memory ran out\n")
         return NO_MEMORY
+    except Exception:
+        # (what an interrupt cuts off may end by another exception, as argparse does)
+        if interrupts:
+            return INTERRUPTED
+        raise
+    finally:
+        # (what is left to do takes no time, and is not cut off with a traceback)
+        if is_ended:
+            signal.signal(signal.SIGINT, signal.SIG_DFL)
 
 
 def _end(number: int, _frame: object) -> NoReturn:

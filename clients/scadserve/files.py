@@ -17,7 +17,8 @@ def read_file(path: str, most: int = -1) -> bytes:
 
 def write_file(path: str, data: bytes) -> None:
     """Writes a file beside its place and renames it, so that it has these bytes or stays as it was. `-` and what standard
-    output goes to are written by it, and what is no ordinary file, as a pipe or a terminal, is written itself. Raises OSError."""
+    output goes to are written by it, and what is not an ordinary file, as a pipe or a terminal, is written itself. Raises
+    OSError."""
     if _is_stream(path):
         is_output = _is_output(path)
         with open(1 if is_output else path, "wb", closefd=not is_output) as it:

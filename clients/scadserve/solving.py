@@ -17,7 +17,8 @@ from typing import Iterable, Iterator, Mapping, Sequence, Union
 from .server.replies import Complex, Reply
 from .server.replies import Fault as ToldFault
 from .server.replies import Solid as ToldSolid
-from .server.scripts import Server, passed_limit, server_words, shown_value, test_options
+from .server.processes import Server, server_words
+from .server.scripts import passed_limit, shown_value, test_options
 from .solid import closing, fouroff, measures
 from .solid.crossings import Crossings
 from .solid.formats import WRITERS
@@ -112,7 +113,7 @@ class Solid:
         TypeError where the unit is neither a whole number nor a Fraction.
         """
         if form not in WRITERS:
-            raise ValueError(f"{form!r} is no format: {', '.join(WRITERS)} are")
+            raise ValueError(f"{form!r} is not a format: {', '.join(WRITERS)} are")
         if not isinstance(unit, (int, Fraction)) or isinstance(unit, bool):
             raise TypeError(f"a unit is a whole number or a Fraction, and not {unit!r}")
         if not 0 < unit < _MOST_UNIT:
@@ -222,7 +223,7 @@ def _test_used(found: Sequence[ReadSource | Fault]) -> None:
 def _assignment(name: str, value: object) -> str:
     """A value by its name, as -D takes it. Raises ValueError where the name is none, and TypeError where the value is."""
     if not isinstance(name, str) or not _NAME.fullmatch(name):
-        raise ValueError(f"{name!r} is no name of a variable")
+        raise ValueError(f"{name!r} is not a name of a variable")
     return f"{name}={_literal(name, value)}"
 
 
@@ -287,7 +288,7 @@ class _ByOpenscad(_Reading):
 
     def __init__(self, folders: Sequence[str]) -> None:
         # (it is much to load, and most sources need none of it)
-        from .openscad.by_openscad import Reader
+        from .calls.by_openscad import Reader
         from .openscad.conversion import Wanted
         from .openscad.front import program
 
@@ -319,14 +320,16 @@ class _ByOpenscad(_Reading):
         return self._reader(file, definitions, folders)
 
     def _with_told(self, found: ReadSource | Fault, file: str) -> ReadSource | Fault:
-        """What was read of a file, with what was told of it."""
+        """What was read of a file, with what was said about it."""
         self._lines[file] = "".join(self._told)
         return self._called(found, file) if isinstance(found, Fault) else found
 
     def _called(self, fault: Fault, file: str) -> Fault:
-        """A fault as it is told of a text, which has no file."""
+        """A fault as it is told about a text, which has no file."""
         name = self._names.get(file, file)
-        return replace(fault, file=fault.file.replace(file, name), message=(self._lines[file] + fault.message).replace(file, name))
+        return replace(
+            fault, file=fault.file.replace(file, name), message=(self._lines[file] + fault.message).replace(file, name)
+        )
 
     def answer(
         self, source: ReadSource, told: Iterator[tuple[ReadSource, Reply]], server: Sequence[str], until: float | None

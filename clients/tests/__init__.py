@@ -1,8 +1,7 @@
 """Tests of what stands round the program.
 
-What they start has the signals' defaults, also where they were started themselves with signals ignored, as in the background of a
-shell. (Python ignores two of them for itself, and gives these back to what it starts.)
-"""
+What they start has the signals' defaults, also where they were started themselves with signals ignored, as in the background of
+a shell. (Python ignores two of them for itself, and gives these back to what it starts.) """
 
 import signal
 

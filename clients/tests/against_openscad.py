@@ -14,9 +14,9 @@ Point = tuple[float, float, float]
 class Mesh(NamedTuple):
     """Triangles by their corners."""
 
-    triangles: "list[tuple[Point, Point, Point]]"
+    triangles: list[tuple[Point, Point, Point]]
 
-    def box(self) -> "list[tuple[float, float]]":
+    def box(self) -> list[tuple[float, float]]:
         """The least and the greatest x, y and z."""
         return [(min(axis), max(axis)) for axis in zip(*(corner for it in self.triangles for corner in it))]
 
@@ -81,7 +81,7 @@ def differences(ours: Mesh, theirs: Mesh, off: float, count: int = 200) -> list[
     return found
 
 
-def _points(mesh: Mesh, count: int) -> "list[Point]":
+def _points(mesh: Mesh, count: int) -> list[Point]:
     """Points in the box and a little round it, the same each time."""
     numbers = random.Random(7)
     ends = [(low - (high - low) / 20, high + (high - low) / 20) for low, high in mesh.box()]
@@ -108,7 +108,7 @@ def _determinant(p: Point, q: Point, r: Point) -> float:
     return _dot(p, _cross(q, r))
 
 
-def _height_at(a: Point, b: Point, c: Point, x: float, y: float) -> "float | None":
+def _height_at(a: Point, b: Point, c: Point, x: float, y: float) -> float | None:
     """The z of a triangle above a place; None where it isn't there."""
     signs = [(q[0] - p[0]) * (y - p[1]) - (q[1] - p[1]) * (x - p[0]) for p, q in ((a, b), (b, c), (c, a))]
     total = sum(signs)

@@ -19,7 +19,7 @@ needs_browser = unittest.skipUnless(BROWSER, "needs chromium")
 PATIENCE = 100
 WORDS = ("--headless=new", "--no-sandbox", "--disable-gpu", "--hide-scrollbars", "--remote-debugging-pipe", "--no-first-run")
 # The browser's codes of keys that are no letters.
-CODES = {"ArrowLeft": 37, "ArrowUp": 38, "ArrowRight": 39, "ArrowDown": 40, "Home": 36}
+CODES = {"Backspace": 8, "ArrowLeft": 37, "ArrowUp": 38, "ArrowRight": 39, "ArrowDown": 40, "Home": 36}
 
 
 class Browser:
@@ -88,7 +88,7 @@ class Browser:
                 return said["result"]
             self.events.append(said)
             if said.get("method") == "Page.javascriptDialogOpening":
-                # (whoever leaves a page that asks whether to stay leaves it)
+                # (a page that asks whether to stay is left all the same)
                 self.send("Page.handleJavaScriptDialog", {"accept": True})
 
     def listen(self):

@@ -17,7 +17,7 @@ from scadserve.solid.fouroff import Boundary, Plane, flatten
 NODE = Node("made", {}, "", 1, 1)
 
 
-def ball(center: "tuple[int, int, int]", radius: int, count: int) -> Body:
+def ball(center: tuple[int, int, int], radius: int, count: int) -> Body:
     """A ball as OpenSCAD makes one, with its corners rounded."""
     points = []
     rings = (count + 1) // 2
@@ -30,7 +30,7 @@ def ball(center: "tuple[int, int, int]", radius: int, count: int) -> Body:
     return body(points)
 
 
-def cone(center: "tuple[int, int, int]", low: int, high: int, height: int, count: int) -> Body:
+def cone(center: tuple[int, int, int], low: int, high: int, height: int, count: int) -> Body:
     """A cone or a cylinder."""
     x, y, z = center
     points = []
@@ -41,14 +41,14 @@ def cone(center: "tuple[int, int, int]", low: int, high: int, height: int, count
     return body(points)
 
 
-def box(center: "tuple[int, int, int]", sides: "tuple[int, int, int]") -> Body:
+def box(center: tuple[int, int, int], sides: tuple[int, int, int]) -> Body:
     """A box by its least corner."""
     x, y, z = center
     a, b, c = sides
     return body([(i, j, k) for i in (x, x + a) for j in (y, y + b) for k in (z, z + c)])
 
 
-def body(points: "list[tuple[int, int, int]]") -> Body:
+def body(points: list[tuple[int, int, int]]) -> Body:
     """The hull of points as a leaf."""
     found = hull(points)
     assert found is not None
@@ -56,12 +56,12 @@ def body(points: "list[tuple[int, int, int]]") -> Body:
 
 
 def design(chance: Random, planes: int, size: int = 400, step: int = 25) -> Grid:
-    """A design of about so many planes. Places are multiples of a step, so that faces and edges come together."""
+    """A design of about this many planes. Places are multiples of a step, so that faces and edges come together."""
 
-    def place() -> "tuple[int, int, int]":
+    def place() -> tuple[int, int, int]:
         return tuple(chance.randrange(-size, size + 1, step) for _ in range(3))  # type: ignore[return-value]
 
-    parts: "list[Grid]" = []
+    parts: list[Grid] = []
     left = planes
     while left > 0:
         kind = chance.random()
@@ -82,7 +82,7 @@ def design(chance: Random, planes: int, size: int = 400, step: int = 25) -> Grid
     return _joined(chance, parts)
 
 
-def _joined(chance: Random, parts: "list[Grid]") -> Grid:
+def _joined(chance: Random, parts: list[Grid]) -> Grid:
     """Parts joined by chance: mostly by unions and differences."""
     if len(parts) == 1:
         return parts[0]
@@ -105,9 +105,9 @@ def one_source(grid: Grid) -> str:
     return "\n".join(written_grid(parted(grid)))
 
 
-def areas(boundary: Boundary) -> "Mapping[Plane, Fraction]":
+def areas(boundary: Boundary) -> Mapping[Plane, Fraction]:
     """By the plane of faces twice the area of all on it, as seen along an axis: what two texts of one solid have in common."""
-    found: "dict[Plane, Fraction]" = {}
+    found: dict[Plane, Fraction] = {}
     for ring, plane in zip(boundary.faces, boundary.planes):
         flat = [(Fraction(x, w), Fraction(y, w)) for x, y, w in flatten([boundary.corners[it] for it in ring], plane)]
         twice = sum((p[0] * q[1] - q[0] * p[1] for p, q in zip(flat, [*flat[1:], flat[0]])), Fraction(0))

@@ -89,7 +89,7 @@ class Editor:
         return found
 
     def diagnostics(self, uri, version=None, seconds=PATIENCE):
-        """What is told of a text, of this version of it where one is named."""
+        """What is said about a text, of this version of it where one is named."""
 
         def fits(it):
             of = it.get("params", {}) if it.get("method") == "textDocument/publishDiagnostics" else {}
@@ -156,7 +156,9 @@ class Case(Calls):
         return self.uri(name)
 
     def change(self, editor, uri, version, *changes):
-        editor.notify("textDocument/didChange", {"textDocument": {"uri": uri, "version": version}, "contentChanges": list(changes)})
+        editor.notify(
+            "textDocument/didChange", {"textDocument": {"uri": uri, "version": version}, "contentChanges": list(changes)}
+        )
 
     def text(self, text, name="part.scad", capabilities=None):
         """A conversation about one text, and what names it."""

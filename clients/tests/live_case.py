@@ -27,7 +27,7 @@ class Answer(NamedTuple):
     """An answer: its status, its headers with names in small letters, and its body."""
 
     status: int
-    headers: "dict[str, str]"
+    headers: dict[str, str]
     body: bytes
 
     def json(self) -> Any:
@@ -37,7 +37,7 @@ class Answer(NamedTuple):
 class Live:
     """The process, which ends with the test."""
 
-    def __init__(self, folder: str, *words: str, server: str = STAND_IN, environment: "Optional[dict[str, str]]" = None) -> None:
+    def __init__(self, folder: str, *words: str, server: str = STAND_IN, environment: Optional[dict[str, str]] = None) -> None:
         how = {**os.environ, "SCADSERVE": server, "OPENSCADPATH": "", **(environment or {})}
         # (the stand-in runs by this very Python)
         how["PATH"] = os.path.dirname(sys.executable) + os.pathsep + how["PATH"]
@@ -50,14 +50,14 @@ class Live:
         self.host = self.address.removeprefix("http://").rstrip("/")
         self.port = int(self.host.rpartition(":")[2]) if self.host else 0
 
-    def close(self) -> "tuple[int, str]":
+    def close(self) -> tuple[int, str]:
         """Ends the process, and gives its status and what it said on standard error."""
         if self.process.poll() is None:
             self.process.send_signal(signal.SIGTERM)
         said = self.process.communicate(timeout=PATIENCE)[1]
         return self.process.returncode, said.decode()
 
-    def ask(self, method: str, path: str, body: "Optional[bytes]" = None, headers: "Optional[dict[str, str]]" = None) -> Answer:
+    def ask(self, method: str, path: str, body: Optional[bytes] = None, headers: Optional[dict[str, str]] = None) -> Answer:
         """The answer to a request."""
         connection = http.client.HTTPConnection("127.0.0.1", self.port, timeout=PATIENCE)
         try:
@@ -67,7 +67,7 @@ class Live:
         finally:
             connection.close()
 
-    def solid(self, text: str, headers: "Optional[dict[str, str]]" = None, D: "tuple[str, ...]" = (), **query: str) -> Answer:
+    def solid(self, text: str, headers: Optional[dict[str, str]] = None, D: tuple[str, ...] = (), **query: str) -> Answer:
         """The answer to a source."""
         words = urlencode([*query.items(), *(("D", it) for it in D)])
         return self.ask("POST", f"/solid?{words}", text.encode(), headers)
@@ -91,9 +91,9 @@ class Live:
 class Case(unittest.TestCase):
     """Tests of one running server, over a folder that is made anew for them."""
 
-    words: "tuple[str, ...]" = ()
+    words: tuple[str, ...] = ()
     server = STAND_IN
-    environment: "dict[str, str]" = {}
+    environment: dict[str, str] = {}
     #: The folder of the sources, and the one that it stands in.
     folder: Path
     around: Path

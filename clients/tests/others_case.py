@@ -30,7 +30,7 @@ def known():
 
 
 def by_chance(count):
-    """So many solids that touch themselves at edges and corners, as lists of tetrahedra."""
+    """This many solids that touch themselves at edges and corners, as lists of tetrahedra."""
     rolled = random.Random(1965)
     return [touching.some(rolled) for _ in range(count)]
 

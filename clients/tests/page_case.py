@@ -1,8 +1,7 @@
 """Pages of off2html in a browser: a page is opened, and what it paints and tells is looked at.
 
-Lengths in the picture are worked out by hand: a unit is 0.46 times the smaller side of the canvas by the radius of the ball round
-the box. A box of 2 x 3 x 6 has a ball of 7/2.
-"""
+Lengths in the picture are worked out by hand: a unit is 0.46 times the smaller side of the canvas by the radius of the ball
+round the box. A box of 2 x 3 x 6 has a ball of 7/2. """
 
 from scadserve.tools import off2html
 from tests import tool_case
@@ -42,7 +41,8 @@ PAINTED = """(() => {
     }
     const colours = {};
     counts.forEach((count, pixel) => (colours[`${pixel & 255} ${(pixel >> 8) & 255} ${(pixel >> 16) & 255}`] = count));
-    return { wide: right - left + 1, high: bottom - top + 1, x: (left + right + 1 - width) / 2, y: (top + bottom + 1 - height) / 2, colours };
+    const [x, y] = [(left + right + 1 - width) / 2, (top + bottom + 1 - height) / 2];
+    return { wide: right - left + 1, high: bottom - top + 1, x, y, colours };
 })()"""
 BRICK = off(box((0, 0, 0), (2, 3, 6)))
 
@@ -81,7 +81,9 @@ class Case(tool_case.Case):
         return self.browser.run(PAINTED)
 
     def assert_painted(self, wide, high, x=0, y=0, size=1.0):
-        """A rectangle of so many units is painted, with its middle so many pixels to the right of that of the canvas and below."""
+        """A rectangle of this many units is painted, with its middle this many pixels to the right of that of the canvas and
+        below.
+        """
         found = self.painted()
         for name, expected in (("wide", wide * self.unit * size), ("high", high * self.unit * size), ("x", x), ("y", y)):
             self.assertAlmostEqual(found[name], expected, delta=2.5, msg=name)
@@ -94,5 +96,5 @@ class Case(tool_case.Case):
         return self.browser.run("document.getElementById('corner').textContent")
 
     def at(self, right, up):
-        """Where a place so many units from the middle of the canvas is on the screen."""
+        """Where a place this many units from the middle of the canvas is on the screen."""
         return self.middle[0] + right * self.unit, self.middle[1] - up * self.unit

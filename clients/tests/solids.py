@@ -69,7 +69,7 @@ def split_box():
 
 
 def comb(teeth, y=0):
-    """A bar from y to y + 3 with so many teeth, which begin at 0, 2, 4 and so on: 5 faces, and 6 for each tooth."""
+    """A bar from y to y + 3 with this many teeth, which begin at 0, 2, 4 and so on: 5 faces, and 6 for each tooth."""
     faces = box((0, y, 0), (2 * teeth, y + 3, 1))[:5]
     for left in range(0, 2 * teeth, 2):
         tooth = box((left, y, 1), (left + 1, y + 3, 3))

@@ -1,4 +1,5 @@
-"""Calls of ./scadserve beside small sources, with nothing on the path but the utilities that it takes, and a stand-in for `rt`."""
+"""Calls of ./scadserve beside small sources, with nothing on the path but the utilities that it takes, and a stand-in for `rt`.
+"""
 
 import hashlib
 import os

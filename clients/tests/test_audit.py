@@ -57,7 +57,10 @@ class Audit(unittest.TestCase):
 
     def test_statements_of_the_calls_that_are_made_are_found(self) -> None:
         kit = "kit/hex/src/lib.rt"
-        self.write(kit, "pub fn encode(x: u8) -> u8\n    ensures { result ≡ x }\n{\n    x\n}\n\npub fn other()\n    ensures { ⊤ }\n{\n}\n")
+        self.write(
+            kit,
+            "pub fn encode(x: u8) -> u8\n    ensures { result ≡ x }\n{\n    x\n}\n\npub fn other()\n    ensures { ⊤ }\n{\n}\n",
+        )
         self.assertEqual(audit.statements(self.top, ["low"], self.top / "kit", "hex"), [])
         self.write("crates/low/src/uses.rt", "use hex::encode;\n\nfn f() { encode(1); }\n")
         found = audit.statements(self.top, ["low"], self.top / "kit", "hex")

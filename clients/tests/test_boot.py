@@ -4,6 +4,7 @@ tools/boot.sh packs it. The program is a script that stands in for it."""
 import lzma
 import os
 import shutil
+import signal
 import subprocess
 import sys
 import time
@@ -42,7 +43,9 @@ class Booted(Starter):
 
     def proved(self, **sums):
         lines = [f"{name} {value}\n" for name, value in {**sums, "libc": "2.34"}.items()]
-        self.write("top/boot/PROVED", "scadserve for x86_64 Linux\n" + "".join(lines) + "\nprogram of nothing\nsources of nothing\n")
+        self.write(
+            "top/boot/PROVED", "scadserve for x86_64 Linux\n" + "".join(lines) + "\nprogram of nothing\nsources of nothing\n"
+        )
 
     def assert_runs(self, said="", **environment):
         """The program of boot/ runs, and this alone is said."""
@@ -111,11 +114,31 @@ class Taken(Booted):
         self.assertEqual(self.files_of("cache")[:1], [self.place])
 
     def test_runs_at_the_same_time_each_have_it(self):
-        how = {"cwd": self.folder, "env": self.environment, "stdin": subprocess.PIPE, "stdout": subprocess.PIPE, "stderr": subprocess.PIPE}
+        how = {
+            "cwd": self.folder,
+            "env": self.environment,
+            "stdin": subprocess.PIPE,
+            "stdout": subprocess.PIPE,
+            "stderr": subprocess.PIPE,
+        }
         runs = [subprocess.Popen([f"{self.top}/scadserve", "run"], **how) for _ in range(8)]
         for run in runs:
             self.assertEqual(run.communicate(b"a show\n", timeout=60), (b"proved run a show\n", b""))
         self.assertEqual(self.files_of("cache"), [self.place])
+
+    def test_what_is_ended_while_it_is_unpacked_leaves_no_file(self):
+        self.program("bin/xz", f"#!/bin/sh\necho part\n: >{self.path('began')}\nexec sleep 100\n")
+        how = {"env": self.environment, "stdin": subprocess.DEVNULL, "start_new_session": True}
+        run = subprocess.Popen([f"{self.top}/scadserve", "run"], **how)
+        while not os.path.exists(self.path("began")):
+            time.sleep(0.01)
+        os.killpg(run.pid, signal.SIGTERM)
+        self.assertEqual(run.wait(50), -signal.SIGTERM)
+        for _ in range(500):
+            if not self.files_of("cache"):
+                return
+            time.sleep(0.01)
+        self.fail("a part of the program is left")
 
     def test_what_the_gate_built_here_goes_first(self):
         os.mkdir(self.path("top/crates/scadserve/out"))
@@ -139,7 +162,10 @@ class Places(Booted):
 
     def assert_told(self, folder, **environment):
         """It is unpacked into this folder, which is told once."""
-        told = f"scadserve: {self.path('file/cache')}/scadserve takes no program, so the one in boot/ was unpacked into {folder}\n"
+        told = (
+            f"scadserve: {self.path('file/cache')}/scadserve takes no program, so the one in boot/ was unpacked into "
+            f"{folder}\n"
+        )
         self.assert_runs(told, **environment)
         self.assert_runs(**environment)
         self.assertEqual(os.stat(folder).st_mode & 0o777, 0o700)
@@ -274,7 +300,11 @@ class Made(Starter):
         self.assertEqual(lzma.decompress(self.read(PACKED)), self.read("top/crates/scadserve/out/scadserve"))
         lines = self.read("top/boot/PROVED").decode().splitlines()
         program = self.sum_of("top/crates/scadserve/out/scadserve")
-        told = ["scadserve for x86_64 Linux, packed in scadserve-x86_64-linux.xz", f"program {program}", f"packed {self.sum_of(PACKED)}"]
+        told = [
+            "scadserve for x86_64 Linux, packed in scadserve-x86_64-linux.xz",
+            f"program {program}",
+            f"packed {self.sum_of(PACKED)}",
+        ]
         told += [f"sources {self.sum_of_sources()}", "kit some kit", "gate 7 passed, 0 failed", "libc 2.34", ""]
         self.assertEqual(lines[: len(told)], told)
         self.assertIn("by `bash .ci/run`", lines[-2])

@@ -68,7 +68,9 @@ class Front(Calls):
         ):
             with self.subTest(source):
                 self.write("part.scad", source)
-                status, _, said = self.call("--by-openscad", *words, "part.scad", "-o", "a.stl", tool=SCAD2STL, environment=openscad)
+                status, _, said = self.call(
+                    "--by-openscad", *words, "part.scad", "-o", "a.stl", tool=SCAD2STL, environment=openscad
+                )
                 self.assertEqual(status, 0, said)
                 lines = said.decode().splitlines()
                 self.assertIn(f"; unit {unit} mm; box {side} x {side} x {side}; volume ", lines[-1])
@@ -81,12 +83,25 @@ class Front(Calls):
         self.write("lib.scad", "// unit: 1/10\n")
         self.write("part.scad", "include <lib.scad>\ninclude <not/there.scad>\n// unit: 1/5\n")
         for tool in (SCAD2STL, None):
-            status, _, said = self.call("--by-openscad", "part.scad", "-o", "a", *(["--format", "stl"] if tool else []), tool=tool, environment={"OPENSCAD": "none"})
-            self.assertEqual((status, said.decode().splitlines()[0]), (1, "part.scad:3:1: error: BadUnit: lib.scad:1 says another unit, 1/10"))
+            status, _, said = self.call(
+                "--by-openscad",
+                "part.scad",
+                "-o",
+                "a",
+                *(["--format", "stl"] if tool else []),
+                tool=tool,
+                environment={"OPENSCAD": "none"},
+            )
+            self.assertEqual(
+                (status, said.decode().splitlines()[0]),
+                (1, "part.scad:3:1: error: BadUnit: lib.scad:1 says another unit, 1/10"),
+            )
 
     def test_an_error_of_openscad_is_one_here_though_it_ends_well(self):
         self.write("part.scad", "cube(1);\nassert(false);\n")
-        openscad = self.stand_in("cube(size = [1, 1, 1], center = false);\n", 'print("ERROR: Assertion failed", file=sys.stderr)')
+        openscad = self.stand_in(
+            "cube(size = [1, 1, 1], center = false);\n", 'print("ERROR: Assertion failed", file=sys.stderr)'
+        )
         status, out, said = self.call("--by-openscad", "part.scad", environment=openscad)
         self.assertEqual((status, out, self.runs()), (1, b"", []))
         self.assertIn("ERROR: Assertion failed\n", said.decode())
@@ -94,9 +109,12 @@ class Front(Calls):
 
     def test_what_cant_be_converted_is_refused_with_its_place(self):
         self.write("part.scad", "wedge();\n")
-        status, out, said = self.call("--by-openscad", "part.scad", environment=self.stand_in("group() {\n\twedge(h = 1);\n}\n"))
+        status, out, said = self.call(
+            "--by-openscad", "part.scad", environment=self.stand_in("group() {\n\twedge(h = 1);\n}\n")
+        )
         self.assertEqual((status, out, self.runs()), (1, b"", []))
-        self.assertIn("part.scad: error: UnknownModule: node 2, wedge is no node that is known here\n    cure: ", said.decode())
+        told = "part.scad: error: UnknownModule: node 2, wedge is not a node that is known here\n    cure: "
+        self.assertIn(told, said.decode())
 
     def test_a_missing_openscad_is_told(self):
         self.write("part.scad", "cube(1);\n")
@@ -129,7 +147,10 @@ class Rendered(unittest.TestCase):
 
     def test_an_outline_that_crosses_itself_is_what_openscad_makes_of_it(self):
         # (a bow of two triangles, each of 4 * 2 / 2)
-        text = "linear_extrude(height = 1) { polygon(points = [[0, 0], [4, 4], [4, 0], [0, 4]], paths = undef, convexity = 1); }"
+        text = (
+            "linear_extrude(height = 1) { polygon(points = [[0, 0], [4, 4], [4, 0], [0, 4]], paths = undef, convexity = 1); "
+            "}"
+        )
         self.assertEqual(self.told(text).text.count(b"linear_extrude"), 2)
 
     def test_what_it_cant_render_is_refused(self):
@@ -179,7 +200,13 @@ class NoSolid(unittest.TestCase):
         if not os.path.isdir(self.SHIPPED):
             self.skipTest("OpenSCAD's examples are not there")
         self.assert_empty(f"{self.SHIPPED}/Functions/echo.scad")
-        for name in ("Functions/list_comprehensions", "Functions/polygon_areas", "Functions/recursion", "Advanced/module_recursion", "Old/example015"):
+        for name in (
+            "Functions/list_comprehensions",
+            "Functions/polygon_areas",
+            "Functions/recursion",
+            "Advanced/module_recursion",
+            "Old/example015",
+        ):
             self.assert_flat(f"{self.SHIPPED}/{name}.scad")
 
 
@@ -209,20 +236,28 @@ class Compared(Calls):
         return fouroff.read(text), unit
 
     def test_decimals_and_holes(self):
-        boundary, unit = self.assert_same("difference() { cube([20.5, 10, 2.5]); translate([5, 5, -1]) cylinder(h = 5, d = 3.2, $fn = 16); }")
-        self.assertEqual([(low * unit, high * unit) for low, high in box(boundary)], [(0, Fraction(41, 2)), (0, 10), (0, Fraction(5, 2))])
+        boundary, unit = self.assert_same(
+            "difference() { cube([20.5, 10, 2.5]); translate([5, 5, -1]) cylinder(h = 5, d = 3.2, $fn = 16); }"
+        )
+        self.assertEqual(
+            [(low * unit, high * unit) for low, high in box(boundary)], [(0, Fraction(41, 2)), (0, 10), (0, Fraction(5, 2))]
+        )
 
     def test_a_profile_round_an_axis_and_one_turned_on_the_way(self):
         self.assert_same("rotate_extrude($fn = 12) translate([5, 0]) polygon([[0, 0], [3, 0], [1, 2], [3, 4], [0, 4]]);")
         self.assert_same("rotate_extrude(angle = 200, $fn = 12) translate([5, 0]) square([2, 3]);")
-        self.assert_same("linear_extrude(height = 6, twist = 60, slices = 3) difference() { square(8, center = true); square(3); }")
+        self.assert_same(
+            "linear_extrude(height = 6, twist = 60, slices = 3) difference() { square(8, center = true); square(3); }"
+        )
 
     def test_sides_that_are_hollow_on_the_way(self):
         self.assert_same("linear_extrude(height = 6, twist = 60, slices = 2) translate([3, 1]) square([4, 2]);")
         self.assert_same("linear_extrude(height = 3, scale = [0.5, 1.5]) translate([1, 1]) square([4, 3]);")
 
     def test_texts_and_slanted_parts(self):
-        self.assert_same('rotate([30, 20, 10]) difference() { cube([9, 6, 3]); translate([2, 2, -1]) cylinder(h = 9, r = 1.5, $fn = 8); }')
+        self.assert_same(
+            'rotate([30, 20, 10]) difference() { cube([9, 6, 3]); translate([2, 2, -1]) cylinder(h = 9, r = 1.5, $fn = 8); }'
+        )
         self.assert_same('linear_extrude(2) text("L", size = 8);')
 
     def test_lengths_of_a_mesh_are_openscads(self):

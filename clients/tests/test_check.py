@@ -35,7 +35,8 @@ MEETS = CASE + """    def test(self):
             time.sleep(0.02)
 """
 MEETS = "import os, time\n" + MEETS
-ALONE = "import os\nALONE = True\n" + CASE + "    def test(self):\n        assert os.path.exists({!r}) and os.path.exists({!r})\n"
+ALONE = CASE + "    def test(self):\n        assert os.path.exists({!r}) and os.path.exists({!r})\n"
+ALONE = "import os\nALONE = True\n" + ALONE
 # (what a test calls may take the limit for one of its own exceptions)
 WAITS = "import time\n" + CASE + """    def test_a(self):
         try:
@@ -278,7 +279,7 @@ class Counts(Check):
         self.assertEqual(lines[begin + 2][:11], " N s N s  t")
         end = [
             "1 skipped: not here",
-            "skipped for want of programs: man (1), no-such-program (2)",
+            "skipped because programs are missing: man (1), no-such-program (2)",
             "on Debian this installs them: apt-get install man-db no-such-program",
         ]
         self.assertEqual(lines[-5:-2], end)
@@ -312,7 +313,9 @@ class Runs(Check):
     def test_an_end_of_the_run_ends_its_processes(self):
         self.check(a=PASSES)
         self.write("top/clients/tests/test_a.py", TELLS.format(self.path("pid")))
-        with subprocess.Popen(["sh", self.path("top/tools/check.sh")], stdout=subprocess.DEVNULL, stderr=subprocess.DEVNULL) as check:
+        with subprocess.Popen(
+            ["sh", self.path("top/tools/check.sh")], stdout=subprocess.DEVNULL, stderr=subprocess.DEVNULL
+        ) as check:
             while not os.path.exists(self.path("pid")):
                 time.sleep(0.02)
             check.terminate()

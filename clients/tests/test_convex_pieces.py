@@ -3,13 +3,30 @@
 import math
 import unittest
 
-from scadserve.openscad.convex_pieces import NotSimple, area2, check_simple, cleaned, contains, goes_up_once, hull, is_convex, nested, pieces
-from scadserve.openscad.convex_pieces import sides, simplified
+from scadserve.openscad.convex_pieces import (
+    NotSimple,
+    area2,
+    check_simple,
+    cleaned,
+    contains,
+    goes_up_once,
+    hull,
+    is_convex,
+    nested,
+    pieces,
+)
+from scadserve.openscad.convex_pieces import sides, simplified, triangles, widened
 
 L = [(0, 0), (10, 0), (10, 3), (3, 3), (3, 10), (0, 10)]
 BOW = [(0, 0), (4, 4), (4, 0), (0, 4)]
-STAR = [(round((1000 if it % 2 else 400) * math.cos(it * math.pi / 10)), round((1000 if it % 2 else 400) * math.sin(it * math.pi / 10)))
-        for it in range(20)]  # fmt: skip
+def star(out, inside, tips):
+    """A star: its corners are in turn near to the middle and far from it."""
+    sizes = [(inside, out)[it % 2 == 0] for it in range(2 * tips)]
+    ways = [it * math.pi / tips for it in range(2 * tips)]
+    return [(round(size * math.cos(way)), round(size * math.sin(way))) for size, way in zip(sizes, ways)]
+
+
+STAR = star(400, 1000, 10)
 
 
 class Pieces(unittest.TestCase):
@@ -46,7 +63,25 @@ class Pieces(unittest.TestCase):
         found = pieces(comb, goes_up_once)
         self.assertEqual((len(found), sum(map(area2, found))), (2, area2(comb)))
         self.assertTrue(all(map(goes_up_once, found)))
-        self.assertEqual(sides([(0, 0), (4, 0), (6, 2), (4, 5), (1, 5), (2, 3)]), ([(4, 0), (6, 2), (4, 5)], [(0, 0), (2, 3), (1, 5)]))
+        self.assertEqual(
+            sides([(0, 0), (4, 0), (6, 2), (4, 5), (1, 5), (2, 3)]), ([(4, 0), (6, 2), (4, 5)], [(0, 0), (2, 3), (1, 5)])
+        )
+
+
+class Wide(unittest.TestCase):
+    def test_two_flat_triangles_are_cut_the_other_way(self):
+        kite = [(0, 0), (100, -10), (200, 0), (100, 10)]
+        found = widened(kite, [[0, 1, 2], [0, 2, 3]])
+        self.assertEqual({frozenset(it) for it in found}, {frozenset((0, 1, 3)), frozenset((1, 2, 3))})
+        # (wide ones stay, and so do those of a square, where either way is as good)
+        self.assertEqual(widened(kite, [[0, 1, 3], [1, 2, 3]]), [[0, 1, 3], [1, 2, 3]])
+        self.assertEqual(widened([(0, 0), (4, 0), (4, 4), (0, 4)], [[0, 1, 2], [0, 2, 3]]), [[0, 1, 2], [0, 2, 3]])
+
+    def test_they_fill_what_they_filled(self):
+        for ring in (L, STAR):
+            found = [[ring[it] for it in part] for part in widened(ring, triangles(ring))]
+            self.assertEqual(sum(map(area2, found)), area2(ring))
+            self.assertTrue(all(area2(it) > 0 for it in found))
 
 
 class Loops(unittest.TestCase):
@@ -61,7 +96,9 @@ class Loops(unittest.TestCase):
         check_simple([[(0, 0), (4, 0), (4, 4), (0, 4)], [(0, 0), (2, 1), (1, 2)]])
 
     def test_inside_outside_and_on(self):
-        self.assertEqual([contains(L, it) for it in ((1, 1), (5, 5), (10, 2), (3, 3), (-1, 0))], [True, False, None, None, False])
+        self.assertEqual(
+            [contains(L, it) for it in ((1, 1), (5, 5), (10, 2), (3, 3), (-1, 0))], [True, False, None, None, False]
+        )
 
     def test_holes_and_islands(self):
         outer, hole, island = ([(-r, -r), (r, -r), (r, r), (-r, r)] for r in (9, 6, 3))
@@ -74,7 +111,9 @@ class Loops(unittest.TestCase):
         self.assertEqual(len(hull([(0, 0), (1, 1), (5, 5)])), 2)
 
     def test_fewer_corners_leave_the_box_and_none_farther_than_told(self):
-        ring = [(round(10_000 * math.cos(math.radians(it))), round(10_000 * math.sin(math.radians(it)))) for it in range(0, 360, 3)]
+        ring = [
+            (round(10_000 * math.cos(math.radians(it))), round(10_000 * math.sin(math.radians(it)))) for it in range(0, 360, 3)
+        ]
         found, off = simplified(ring, 200)
         self.assertLess(len(found), 40)
         self.assertLessEqual(set(found), set(ring))

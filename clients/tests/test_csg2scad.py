@@ -43,14 +43,19 @@ class Shapes(unittest.TestCase):
     UNIT = {"unit": Fraction(1)}
 
     def test_a_box(self):
-        self.assertEqual(lines("cube(size = [10, 10.5, 3], center = true);"), ["translate([-2500, -2625, -750]) cube([5000, 5250, 1500]);"])
-        self.assertEqual(lines("cube(size = [2, 3, 4], center = false);", **self.UNIT), ["translate([0, 0, 0]) cube([2, 3, 4]);"])
+        cube = "translate([-2500, -2625, -750]) cube([5000, 5250, 1500]);"
+        self.assertEqual(lines("cube(size = [10, 10.5, 3], center = true);"), [cube])
+        cube = "translate([0, 0, 0]) cube([2, 3, 4]);"
+        self.assertEqual(lines("cube(size = [2, 3, 4], center = false);", **self.UNIT), [cube])
 
     def test_a_cylinder_and_a_ring_have_openscads_corners(self):
         cylinder = "cylinder($fn = 4, $fa = 12, $fs = 2, h = 5, r1 = {0}, r2 = {0}, center = false);"
-        self.assertEqual(lines(cylinder.format(2), **self.UNIT), ["linear_extrude(5) polygon([[-2, 0], [0, -2], [2, 0], [0, 2]]);"])
-        turned = "rotate_extrude(angle = 360, $fn = 4) { multmatrix([[1, 0, 0, 2], [0, 1, 0, 0], [0, 0, 1, 0], [0, 0, 0, 1]]) {" \
-            " square(size = [1, 3], center = false); } }"  # fmt: skip
+        square = "linear_extrude(5) polygon([[-2, 0], [0, -2], [2, 0], [0, 2]]);"
+        self.assertEqual(lines(cylinder.format(2), **self.UNIT), [square])
+        turned = (
+            "rotate_extrude(angle = 360, $fn = 4) { multmatrix([[1, 0, 0, 2], [0, 1, 0, 0], [0, 0, 1, 0], [0, 0, 0, 1]]) {"
+            " square(size = [1, 3], center = false); } }"
+        )
         self.assertEqual(
             lines(turned, **self.UNIT),
             ["difference() {", "linear_extrude(3) polygon([[-3, 0], [0, -3], [3, 0], [0, 3]]);",
@@ -67,16 +72,23 @@ class Shapes(unittest.TestCase):
 
     def test_slices_are_openscads(self):
         # (as its version 2021.01 makes them: 411 / 360 times 30 or 20, and 30 for a whole turn)
-        for given, radius, count in (("height = 100, twist = 411, $fn = 0", 20, 35), ("height = 100, twist = 411, $fn = 20", 20, 23),
-                                     ("height = 10, twist = 360, $fn = 0", 14, 30), ("height = 10, twist = 90, slices = 4", 3, 4)):  # fmt: skip
+        for given, radius, count in (
+            ("height = 100, twist = 411, $fn = 0", 20, 35),
+            ("height = 100, twist = 411, $fn = 20", 20, 23),
+            ("height = 10, twist = 360, $fn = 0", 14, 30),
+            ("height = 10, twist = 90, slices = 4", 3, 4),
+        ):
             text = f"linear_extrude({given}, $fa = 12, $fs = 2) {{ circle($fn = 4, r = {radius}); }}"
             self.assertEqual(len(list(leaves(solid(text)[0]))), count)
 
     def test_hulls_and_sums_of_boxes(self):
-        pair = "cube(size = [2, 2, 2], center = false); multmatrix([[1, 0, 0, 4], [0, 1, 0, 0], [0, 0, 1, 0], [0, 0, 0, 1]]) {" \
-            " cube(size = [1, 2, 2], center = false); }"  # fmt: skip
+        pair = (
+            "cube(size = [2, 2, 2], center = false); multmatrix([[1, 0, 0, 4], [0, 1, 0, 0], [0, 0, 1, 0], [0, 0, 0, 1]]) {"
+            " cube(size = [1, 2, 2], center = false); }"
+        )
         self.assertEqual(lines(f"hull() {{ {pair} }}", **self.UNIT), ["translate([0, 0, 0]) cube([5, 2, 2]);"])
-        self.assertEqual(lines(f"minkowski(convexity = 0) {{ {pair} }}", **self.UNIT), ["translate([4, 0, 0]) cube([3, 4, 4]);"])
+        cube = "translate([4, 0, 0]) cube([3, 4, 4]);"
+        self.assertEqual(lines(f"minkowski(convexity = 0) {{ {pair} }}", **self.UNIT), [cube])
         self.assertEqual(
             lines("resize(newsize = [6, 0, 0], auto = [0, 1, 0]) { cube(size = [2, 2, 2], center = false); }", **self.UNIT),
             ["translate([0, 0, 0]) cube([6, 6, 2]);"],
@@ -87,18 +99,27 @@ class Shapes(unittest.TestCase):
             "paths = [[0, 1, 2, 3], [4, 5, 6]], convexity = 1); }"  # fmt: skip
         outer, inner = bodies(hole, Fraction(1))
         self.assertEqual((volume6(outer), volume6(inner)), (6 * 81, 6 * 2))
-        bay = "linear_extrude(height = 2) { polygon(points = [[0, 0], [9, 0], [9, 3], [3, 3], [3, 9], [0, 9]], paths = undef); }"
+        bay = (
+            "linear_extrude(height = 2) {"
+            " polygon(points = [[0, 0], [9, 0], [9, 3], [3, 3], [3, 9], [0, 9]], paths = undef); }"
+        )
         self.assertEqual(sum(map(volume6, bodies(bay, Fraction(1)))), 6 * 2 * (27 + 18))
 
     def test_sides_of_a_turned_prism_stay_flat(self):
         [body] = bodies(TURN + "{ cylinder($fn = 12, h = 9.37, r1 = 5, r2 = 5, center = false); }")
         # (the ends are across (0, -1, 1.732), and no side is)
-        sides = [(ring, plane) for plane, ring in body.facets.items() if abs(1.732 * plane[2] - plane[1]) < 0.5 * math.hypot(*plane[:3])]
+        def is_side(plane):
+            return abs(1.732 * plane[2] - plane[1]) < 0.5 * math.hypot(*plane[:3])
+
+        sides = [(ring, plane) for plane, ring in body.facets.items() if is_side(plane)]
         self.assertEqual([len(ring) for ring, _ in sides], [4] * 12)
 
     def test_what_turned_parts_have_in_common_they_still_have(self):
-        stacked = "{{ cube(size = [3.3, 4.7, 5.1], center = false); multmatrix([[1, 0, 0, 0], [0, 1, 0, 0], [0, 0, 1, {0}], [0, 0, 0, 1]])" \
-            " {{ cube(size = [3.3, 4.7, 2.9], center = false); }} }}"  # fmt: skip
+        stacked = (
+            "{{ cube(size = [3.3, 4.7, 5.1], center = false);"
+            " multmatrix([[1, 0, 0, 0], [0, 1, 0, 0], [0, 0, 1, {0}], [0, 0, 0, 1]])"
+            " {{ cube(size = [3.3, 4.7, 2.9], center = false); }} }}"
+        )
         lower, upper = bodies(TURN + stacked.format(5.1))
         self.assertEqual(len(set(lower.corners) & set(upper.corners)), 4)
 
@@ -107,7 +128,8 @@ class Shapes(unittest.TestCase):
         self.assertEqual(volume6(body), 27)
         # (a cube of 10 whose upper side is pushed in by 4: a pyramid of 10 * 10 * 4 / 3 is missing)
         points = [[x, y, z] for z in (0, 10) for x, y in ((0, 0), (10, 0), (10, 10), (0, 10))] + [[5, 5, 6]]
-        faces = [[0, 1, 2, 3], [4, 5, 1, 0], [5, 6, 2, 1], [6, 7, 3, 2], [7, 4, 0, 3], [5, 4, 8], [6, 5, 8], [7, 6, 8], [4, 7, 8]]
+        faces = [[0, 1, 2, 3], [4, 5, 1, 0], [5, 6, 2, 1], [6, 7, 3, 2], [7, 4, 0, 3]]
+        faces += [[5, 4, 8], [6, 5, 8], [7, 6, 8], [4, 7, 8]]
         found = bodies(f"polyhedron(points = {points}, faces = {faces}, convexity = 1);", Fraction(1, 2))
         self.assertEqual(sum(map(volume6, found)), 6 * 8 * 1000 - 6 * 8 * 400 // 3)
 
@@ -117,7 +139,10 @@ class Shapes(unittest.TestCase):
             " { cube(size = [2, 2, 2], center = false); }"
             for x in range(6) for y in range(6) for z in range(6)
         )  # fmt: skip
-        slanted = "multmatrix([[0.707107, -0.612372, 0.353553, 0], [0.707107, 0.612372, -0.353553, 0], [0, 0.5, 0.866025, 0], [0, 0, 0, 1]])"
+        slanted = (
+            "multmatrix([[0.707107, -0.612372, 0.353553, 0], [0.707107, 0.612372, -0.353553, 0], [0, 0.5, 0.866025, 0], [0, 0, "
+            "0, 1]])"
+        )
         found = converted(read(f"{slanted} {{ {steps} }}"), Wanted(), Front("."))
         self.assertLess(found.off, 0.3)
 
@@ -130,7 +155,8 @@ class Joins(unittest.TestCase):
         self.assertEqual(len(lines(f"difference() {{ %{self.OTHER} {self.CUBE} }}")), 1)
         self.assertEqual(len(lines(f"hull() {{ group(); {self.CUBE} }}")), 1)
         self.assertEqual(len(lines(f"minkowski() {{ group(); {self.CUBE} }}")), 1)
-        for text in (f"difference() {{ group(); {self.CUBE} }}", f"intersection() {{ {self.CUBE} group(); }}", "", "%" + self.CUBE):
+        nothing = (f"difference() {{ group(); {self.CUBE} }}", f"intersection() {{ {self.CUBE} group(); }}")
+        for text in (*nothing, "", "%" + self.CUBE):
             with self.assertRaises(CsgFault) as caught:
                 lines(text)
             self.assertEqual(caught.exception.word, "Empty")
@@ -166,7 +192,8 @@ class Limits(unittest.TestCase):
 
     def test_corners_are_left_out_where_planes_run_out_and_that_is_told(self):
         many = "".join(
-            f"multmatrix([[1, 0, 0, {30 * at}], [0, 1, 0, 0], [0, 0, 1, 0], [0, 0, 0, 1]]) {{ {self.BALL.format(30)} }}" for at in range(3)
+            f"multmatrix([[1, 0, 0, {30 * at}], [0, 1, 0, 0], [0, 0, 1, 0], [0, 0, 0, 1]]) {{ {self.BALL.format(30)} "
+            f"}}" for at in range(3)
         )
         with self.assertRaises(CsgFault) as caught:
             converted(read(many), Wanted(is_exact=True), Front("."))
@@ -179,7 +206,10 @@ class Limits(unittest.TestCase):
 
     def test_as_little_as_suffices_is_left_out(self):
         # (200 slices have twice as many planes as a part may have, and a quarter of them are off by little)
-        text = "linear_extrude(height = 40, center = true, twist = -360, slices = 200, scale = [0, 0]) { square(size = [20, 10]); }"
+        text = (
+            "linear_extrude(height = 40, center = true, twist = -360, slices = 200, scale = [0, 0]) { square(size = [20, 10]); "
+            "}"
+        )
         found = converted(read(text), Wanted(), Front("."))
         self.assertIn("1 linear_extrude (45 of 200 at least)", "".join(found.told))
         self.assertLess(found.off, 0.25)
@@ -231,13 +261,19 @@ class Refusals(unittest.TestCase):
         for text, word, said in (
             ("group() {\n  wedge(h = 3);\n}", "UnknownModule", "2:3: UnknownModule: wedge"),
             ("square(size = [1, 1], center = false);", "WrongDimension", "1:1: WrongDimension: square: the design is flat"),
-            ("linear_extrude(height = 1) { cube(size = [1, 1, 1]); }", "Empty", "1:1: Empty: this design makes no solid at all"),
+            ("linear_extrude(height = 1) { cube(size = [1, 1, 1]); "
+             "}", "Empty", "1:1: Empty: this design makes no solid at all"),
             ("cube(size = [1, nan, 1]);", "BadArgument", "1:1: BadArgument: cube: size"),
-            ("multmatrix([[1, 0, 0, 0], [0, 1, 0, 0], [0, 0, 1, 0], [0, 0, 1, 1]]) { cube(size = [1, 1, 1]); }", "BadArgument", "multmatrix"),
+            ("multmatrix([[1, 0, 0, 0], [0, 1, 0, 0], [0, 0, 1, 0], [0, 0, 1, 1]]) { cube(size = [1, 1, 1]); "
+             "}", "BadArgument", "multmatrix"),
             (turned, "BadArgument", "1:1: BadArgument: rotate_extrude"),
             (f"polyhedron({points}, faces = [[0, 1, 2], [0, 3, 1]]);", "NotClosed", "1:1: NotClosed: polyhedron"),
             (f"polyhedron({points}, faces = [[0, 1, 9]]);", "BadPoint", "1:1: BadPoint: polyhedron"),
-            (tetrahedron((0, 0, 0), (0, 3, 0), (3, 0, 0), (3, 3, 0)), "NotConvex", "1:1: NotConvex: polyhedron: its faces bound no volume"),
+            (
+                tetrahedron((0, 0, 0), (0, 3, 0), (3, 0, 0), (3, 3, 0)),
+                "NotConvex",
+                "1:1: NotConvex: polyhedron: its faces bound no volume",
+            ),
         ):
             with self.assertRaises(CsgFault) as caught:
                 lines(text)
@@ -262,7 +298,7 @@ class Tool(Case):
         bad = self.file("bad.csg", b"group() {\n\tcube(size = [1, 1);\n}\n")
         self.assert_fault(1, [bad, "-o", self.path("x.scad")], "bad.csg:2:19: error: Expected: ")
         self.assert_fault(2, [self.path("none.csg")], "csg2scad: cannot open none.csg: No such file or directory")
-        self.assert_fault(2, [bad, "--unit", "0"], "csg2scad: argument --unit: '0' is no number above 0")
+        self.assert_fault(2, [bad, "--unit", "0"], "csg2scad: argument --unit: '0' is not a number above 0")
         self.assert_fault(2, [bad, "--planes", "2000"], "csg2scad: argument --planes")
         self.assert_fault(2, [bad, "-o", bad], "that is the evaluated form itself")
         self.assert_fault(2, [bad, "--none"], "csg2scad: unrecognized arguments: --none")

@@ -1,4 +1,5 @@
-"""Outlines as hulls without bays: by hand, against the outline at all places of a grid, and extruded on grids of several steps."""
+"""Outlines as hulls without bays: by hand, against the outline at all places of a grid, and extruded on grids of several steps.
+"""
 
 import math
 import random
@@ -45,7 +46,9 @@ def area(carving):
 def extruded(loop, matrix=""):
     """The solid of an outline made 2 high."""
     text = f"linear_extrude(height = 2) {{ polygon(points = {[list(it) for it in loop]}, paths = undef); }}"
-    return Space(Detail(), Front(".").flat, Front(".").solid).solid(read(f"{matrix} {{ {text} }}" if matrix else text), IDENTITY)
+    return Space(Detail(), Front(".").flat, Front(".").solid).solid(
+        read(f"{matrix} {{ {text} }}" if matrix else text), IDENTITY
+    )
 
 
 def volume(tree):
@@ -132,7 +135,9 @@ class OnTheGrid(unittest.TestCase):
         slant = "multmatrix([[1, 0, 0, 0], [0, 0.866025, -0.5, 0], [0, 0.5, 0.866025, 0], [0, 0, 0, 1]])"
         self.assertNotIsInstance(extruded(C, slant), Carved)
         text = f"hull() {{ linear_extrude(height = 2) {{ polygon(points = {[list(it) for it in U]}, paths = undef); }} }}"
-        found = Rounder(1024).rounded(Space(Detail(), Front(".").flat, Front(".").solid).solid(read(text), IDENTITY), Fraction(1))
+        found = Rounder(1024).rounded(
+            Space(Detail(), Front(".").flat, Front(".").solid).solid(read(text), IDENTITY), Fraction(1)
+        )
         self.assertEqual(volume(found.tree), 6 * 2 * 81)
 
 

@@ -60,7 +60,9 @@ class Carvings(unittest.TestCase):
         hook = carving_of(prism(HOOK, 3))
         # (64 less 1 by 2 between 4 and 6 and what is behind it, from 1 to 7 by 1 to 7, but for 3 by 1)
         self.assertEqual(volume6(hook), 6 * 3 * (64 - 2 - 36 + 3))
-        for point, inside in (((0.5, 4, 1), True), ((3, 4, 1), False), ((7.5, 5, 1), False), ((5, 3.5, 1), True), ((5, 2, 1), False)):
+        for point, inside in (
+            ((0.5, 4, 1), True), ((3, 4, 1), False), ((7.5, 5, 1), False), ((5, 3.5, 1), True), ((5, 2, 1), False)
+        ):
             self.assertEqual(holds(hook, point), inside)
 
     def test_a_cavity_a_way_through_and_two_bodies(self):
@@ -72,7 +74,11 @@ class Carvings(unittest.TestCase):
         self.assertEqual(volume6(carving_of(ring)), 6 * 8 * 8)
 
     def test_cells_that_touch_at_an_edge_alone(self):
-        for cells in ({(0, 0, 0), (1, 1, 0)}, {(0, 0, 0), (1, 1, 1)}, {(x, y, 0) for x in range(3) for y in range(3)} - {(0, 1, 0), (1, 2, 0)}):
+        for cells in (
+            {(0, 0, 0), (1, 1, 0)},
+            {(0, 0, 0), (1, 1, 1)},
+            {(x, y, 0) for x in range(3) for y in range(3)} - {(0, 1, 0), (1, 2, 0)},
+        ):
             found = carving_of(of_cells(cells))
             self.assertEqual(volume6(found), 6 * 8 * len(cells))
             for cell in [(x, y, z) for x in range(3) for y in range(3) for z in range(2)]:
@@ -109,8 +115,9 @@ class Carvings(unittest.TestCase):
         # (Schoenhardt's body, which has no inner edge: a prism over a triangle whose upper end is turned)
         low, high = [(0, 0, 0), (70, 0, 0), (35, 61, 0)], [(20, -9, 50), (68, 30, 50), (17, 40, 50)]
         for first in (0, 1):
-            sides = [face for at in range(3) for face in (
-                [low[at], low[at - 2], (high[at], high[at - 2])[first]], [(low[at - 2], low[at])[first], high[at - 2], high[at]])]
+            lower = [[low[at], low[at - 2], (high[at], high[at - 2])[first]] for at in range(3)]
+            upper = [[(low[at - 2], low[at])[first], high[at - 2], high[at]] for at in range(3)]
+            sides = [face for pair in zip(lower, upper) for face in pair]
             found = carving_of([low[::-1], high, *sides])
             self.assertEqual(isinstance(found, Hull), first == 0)
 

@@ -70,7 +70,9 @@ class Faults(unittest.TestCase):
 
     def test_numbers_that_are_wanted(self):
         [node] = read("cylinder($fn = [1, inf, 2], h = true);")
-        for call in (lambda: node.numbers("$fn", 3), lambda: node.numbers("$fn", 2), lambda: node.number("h"), lambda: node.number("r")):
+        for call in (
+            lambda: node.numbers("$fn", 3), lambda: node.numbers("$fn", 2), lambda: node.number("h"), lambda: node.number("r")
+        ):
             with self.assertRaises(CsgFault) as caught:
                 call()
             self.assertEqual((caught.exception.word, caught.exception.said[:10]), ("BadArgument", "cylinder: "))

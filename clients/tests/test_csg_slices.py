@@ -9,9 +9,13 @@ from scadserve.openscad.grid import Rounder
 from scadserve.openscad.reader import CsgFault, read
 from scadserve.openscad.slices import Slice, rising
 from scadserve.openscad.space import Space
-from scadserve.openscad.tree import IDENTITY, Detail, leaves
+from scadserve.openscad.tree import DIFFERENCE, IDENTITY, Detail, leaves
 from scadserve.openscad.exact_hull import volume6
 from scadserve.openscad.front import Front
+from scadserve.solid import measures
+from scadserve.tiles.joined import boundary_of
+from scadserve.tiles.making import made
+from tests.calls import PROGRAM, needs_program
 
 NODE = read("group();")[0]
 
@@ -29,8 +33,8 @@ def hulls(text, unit=Fraction(1, 100)):
 
 class Sides(unittest.TestCase):
     def test_the_shorter_diagonal_is_taken(self):
-        # (as OpenSCAD writes linear_extrude(5, twist = 30, slices = 1) translate([3, 1]) square([4, 2]): on the first side from (7, 1)
-        # to the place of (3, 1), on the second from (7, 1) to that of (7, 3), and so on)
+        # (as OpenSCAD writes linear_extrude(5, twist = 30, slices = 1) translate([3, 1]) square([4, 2]): on the first side from
+        # (7, 1) to the place of (3, 1), on the second from (7, 1) to that of (7, 3), and so on)
         ring = [(3, 1), (7, 1), (7, 3), (3, 3)]
         below, above = turned(ring, 0, 0), turned(ring, 30, 5)
         self.assertEqual(rising(below, above, True, False), [False, True, True, False])
@@ -61,11 +65,13 @@ class Parts(unittest.TestCase):
         self.assertFalse(hollow.is_hull())
 
         def volume(slice_):
-            parts = slice_.parts(NODE)
+            parts = slice_.parts(NODE)()
             scaled = [[tuple(round(at * 1000) for at in corner) for corner in part] for part in parts]
             return sum(volume6(Rounder(1024)._hull(set(part))) for part in scaled) / 6e9
 
-        (ax, ay, az), (bx, by, bz), (cx, cy, cz) = ([q - p for p, q in zip(below[0], it)] for it in (below[1], above[0], above[1]))
+        (ax, ay, az), (bx, by, bz), (cx, cy, cz) = (
+            [q - p for p, q in zip(below[0], it)] for it in (below[1], above[0], above[1])
+        )
         missing = abs(ax * (by * cz - bz * cy) - ay * (bx * cz - bz * cx) + az * (bx * cy - by * cx)) / 6
         self.assertAlmostEqual(volume(bulging) - volume(hollow), 4 * missing, 1)
         # (the middles of two diagonals of a side of 6 are 6 sin 22 degrees = 2.25 from one another)
@@ -87,21 +93,66 @@ class Designs(unittest.TestCase):
     def test_what_no_inner_point_sees_is_a_hull_and_that_is_told(self):
         text = self.BAR.format(200, 1)
         found = converted(read(text), Wanted(may_be_fewer=True), Front("."))
-        self.assertIn("slices with hollow sides as hulls: linear_extrude at 1:1, node 1; nothing is off by more than", found.told[1])
+        self.assertIn(
+            "slices with hollow sides as hulls: linear_extrude at 1:1, node 1; nothing is off by more than", found.told[1]
+        )
         with self.assertRaises(CsgFault) as caught:
             converted(read(text), Wanted(is_exact=True), Front("."))
         self.assertEqual(caught.exception.word, "NotConvex")
 
     def test_levels_that_are_left_out_count_with_their_scale(self):
-        # (two slices, of which one is kept: at the middle a corner is at 1.5 times its place, turned by 15 degrees; the straight way
-        # is there at half of it and the whole of twice it turned by 30, which is off by 1.5 (1 - cos 15) and 0.5 sin 15 across)
-        text = "linear_extrude(height = 5, twist = 30, slices = 2, scale = [2, 2]) { polygon(points = [[9, 0], [10, 0], [9, 1]]); }"
+        # (two slices, of which one is kept: at the middle a corner is at 1.5 times its place, turned by 15 degrees; the
+        # straight way is there at half of it and the whole of twice it turned by 30, which is off by 1.5 (1 - cos 15) and 0.5
+        # sin 15 across)
+        text = (
+            "linear_extrude(height = 5, twist = 30, slices = 2, scale = [2, 2]) { polygon(points = [[9, 0], [10, 0], [9, 1]]); "
+            "}"
+        )
         detail = Detail(2.0)
         Space(detail, Front(".").flat, Front(".").solid).solid(read(text), IDENTITY)
         off = 10 * math.hypot(1.5 * (1 - math.cos(math.radians(15))), 0.5 * math.sin(math.radians(15)))
         self.assertEqual(detail.fewest["linear_extrude"], (1, 2))
         self.assertGreaterEqual(detail.off, off)
         self.assertLess(detail.off, off + 1)
+
+
+class Dents(unittest.TestCase):
+    """Where there is no bound on planes, a slice is the hull of its corners without a dent at each hollow side."""
+
+    # An angle of two bars, which turns: OpenSCAD's mesh of it has 56 triangles and a volume of 553.1453.
+    POINTS = "[[0, 0], [10, 0], [10, 3], [3, 3], [3, 10], [0, 10]]"
+    ANGLE = f"linear_extrude(height = 10, twist = 40, slices = 4) {{ polygon(points = {POINTS}); }}"
+    MIRRORED = "multmatrix([[-1, 0, 0, 0], [0, 1, 0, 0], [0, 0, 1, 0], [0, 0, 0, 1]]) { %s }"
+
+    def grid(self, text, unit=Fraction(1, 200)):
+        detail = Detail(most_sides=math.inf)
+        solid = Space(detail, Front(".").flat, Front(".").solid).solid(read(text), IDENTITY)
+        return Rounder(None).rounded(solid, unit).tree
+
+    def test_a_hull_without_its_dents_has_openscads_volume(self):
+        for degrees, volume in ((30, 38.21), (60, 33.33)):
+            tree = self.grid(Designs.BAR.format(degrees, 1), Fraction(1, 400))
+            body, *dents = leaves(tree)
+            self.assertEqual((tree.operation, len(dents)), (DIFFERENCE, 2))
+            self.assertTrue(all(len(it.hull.corners) == 4 for it in dents))
+            own = volume6(body.hull) - sum(volume6(it.hull) for it in dents)
+            self.assertAlmostEqual(own / 6 / 400**3, volume, 1)
+
+    def test_dents_beside_other_slices_are_filled_by_these(self):
+        # (five corners turn left and one right: three pieces at most, and no dent where two of them touch)
+        for text in (self.ANGLE, self.MIRRORED % self.ANGLE):
+            all_leaves = list(leaves(self.grid(text)))
+            hulls = [it for it in all_leaves if len(it.hull.corners) > 4]
+            self.assertLess(len(hulls), 4 * 4)
+            self.assertLessEqual(len(all_leaves) - len(hulls), 4 * 4)
+
+    @needs_program
+    def test_turned_angles_have_openscads_volume(self):
+        for text in (self.ANGLE, self.MIRRORED % self.ANGLE):
+            found = made(self.grid(text), [PROGRAM], 2)
+            boundary = boundary_of(found.surface)
+            self.assertEqual(len(boundary.faces), 56)
+            self.assertAlmostEqual(float(measures.volume(boundary).value) / 200**3, 553.145, 0)
 
 
 if __name__ == "__main__":

@@ -1,4 +1,5 @@
-"""Extrusions that turn on the way as straight steps: where they are, how far they are off, and which planes they have in common."""
+"""Extrusions that turn on the way as straight steps: where they are, how far they are off, and which planes they have in
+common."""
 
 import math
 import unittest
@@ -36,9 +37,11 @@ class Steps(unittest.TestCase):
             self.assertTrue(all(one.high == two.low for one, two in zip(found, found[1:])))
 
     def test_how_far_they_are_off(self):
-        # (ten to a turn: half of a step is 0.5 high, a corner out at 2 isn't reached by 2 (1 - cos 18 degrees) = 0.098; slices of
-        # 3.6 degrees are 0.1 high and lie within arcs by 2 (1 - cos 1.8 degrees) = 0.001, and sides of 4 differ by 0.063)
-        self.assertAlmostEqual(Turning(10, 2 * math.pi, 100, 2, 4).off(10), 0.5 + 4 * math.sin(math.radians(1.8)) / 2 + 0.000987, 5)
+        # (ten to a turn: half of a step is 0.5 high, a corner out at 2 isn't reached by 2 (1 - cos 18 degrees) = 0.098; slices
+        # of 3.6 degrees are 0.1 high and lie within arcs by 2 (1 - cos 1.8 degrees) = 0.001, and sides of 4 differ by 0.063)
+        self.assertAlmostEqual(
+            Turning(10, 2 * math.pi, 100, 2, 4).off(10), 0.5 + 4 * math.sin(math.radians(1.8)) / 2 + 0.000987, 5
+        )
         # (with sides of 40 the height of a slice is less)
         self.assertAlmostEqual(Turning(10, 2 * math.pi, 100, 2, 40).off(10), 0.5 + 0.1 + 0.000987, 5)
 
@@ -47,7 +50,9 @@ class Steps(unittest.TestCase):
         self.assertEqual(len(lines), 4)
         # (the sides of a square look to 0, 90, 180 and 270 degrees)
         self.assertEqual([different(lines, math.radians(it)) for it in (90, 45, 120, 360, 50)], [1, 1, 4, 4, 4])
-        self.assertEqual(len(lines_of([[(0, 0), (5_000_000, 0), (0, 5_000_000)], [(0, 0), (-5_000_000, 0), (0, -5_000_000)]])), 4)
+        self.assertEqual(
+            len(lines_of([[(0, 0), (5_000_000, 0), (0, 5_000_000)], [(0, 0), (-5_000_000, 0), (0, -5_000_000)]])), 4
+        )
 
     def test_a_ring_round_the_axis_neednt_be_turned(self):
         self.assertAlmostEqual(round_off([SQUARE]), 2**0.5 * 1_000_000 - 1_000_000)
@@ -60,7 +65,8 @@ class Designs(unittest.TestCase):
         found = converted(read(BAR), Wanted(), Front("."))
         # (ten to a turn: half a step and a slice are 0.2 and 0.11 high, a corner out at 7.07 isn't reached by
         # 7.07 (1 - cos 18 degrees) = 0.346, and a slice of 10 degrees lies within the arcs by 0.027)
-        self.assertIn("what turns on the way in straight steps, since a part has at most 1024 planes: linear_extrude at 1:1, node 1 (1001 steps)", found.told[1])
+        self.assertIn("what turns on the way in straight steps, since a part has at most 1024 planes: linear_extrude at 1:1, "
+                      "node 1 (1001 steps)", found.told[1])
         self.assertIn("nothing is off by more than 0.37", found.told[1])
         # (two of ten are turned by half turns)
         text = found.text.decode()

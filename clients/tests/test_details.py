@@ -55,7 +55,7 @@ CASES = [
     ("assert(message = \"m\", condition = false);", "AssertFailed", "this assertion does not hold: m"),
     ("assert(false, [1]);", "AssertFailed", "this assertion does not hold"),
     ("assert(false);", "AssertFailed", "this assertion does not hold"),
-    ("translate([0, 0, -.01]) cube(1);", "NotWhole", ".01 is no whole number"),
+    ("translate([0, 0, -.01]) cube(1);", "NotWhole", ".01 is not a whole number"),
 ]
 
 
@@ -84,8 +84,15 @@ class Tables(unittest.TestCase):
 
 class Structures(unittest.TestCase):
     def test_what_is_no_program_is_none(self):
-        for source, word in ((b"cube(1", "Expected"), (b"cube(1));", "Expected"), (b"x = ;", "Expected"), (b"{" * 129, "Nested"),
-                             (b"module m cube(1);", "Expected"), (b"x = (1;", "Expected"), (b"f(1)(2);", "Expected")):
+        for source, word in (
+            (b"cube(1", "Expected"),
+            (b"cube(1));", "Expected"),
+            (b"x = ;", "Expected"),
+            (b"{" * 129, "Nested"),
+            (b"module m cube(1);", "Expected"),
+            (b"x = (1;", "Expected"),
+            (b"f(1)(2);", "Expected"),
+        ):
             with self.assertRaises(NoProgram) as caught:
                 structure_of(tokens([source]))
             self.assertEqual(caught.exception.word, word, source)
@@ -118,8 +125,8 @@ class Causes(Calls):
         for source, cure in (("cube(sise = 2);", "write size"), ("cube(2, 3, 4);", "several numbers of one argument"),
                              ("cube(0.01);", "leave it out: touching faces are exact"), ("cube(0.5);", "off2stl --unit 1/10"),
                              ("\ufeffcube(1);", "save without it"), ("w = abs(n = 2);", "leave out n =")):
-            self.assertIn(f"    cure: {cure}", self.call(self.write("part.scad", source))[2].decode().replace("write lengths in "
-                          "tenths, 25 for 2.5, and print by ", ""))
+            said = self.call(self.write("part.scad", source))[2].decode()
+            self.assertIn(f"    cure: {cure}", said.replace("write lengths in tenths, 25 for 2.5, and print by ", ""))
 
 
 @needs_program
@@ -149,7 +156,10 @@ class Callers(Calls):
             # (by way of itself the call from outside led there)
             ("module down(n) { cube(n - 2); down(n - 1); }\nif (false) down(1);\ndown(4);", ["3:1"]),
             ("module a(n) { cube(n); b(n - 1); }\nmodule b(n) { a(n); }\nb(3); a(2);", ["2:15", "1:24"]),
-            ("function half(n) = n / 2;\nfunction f(n) = half(n) + half(n + 2);\nx = f(2); y = f(3); z = f(4);", ["2:17", "3:15"]),
+            (
+                "function half(n) = n / 2;\nfunction f(n) = half(n) + half(n + 2);\nx = f(2); y = f(3); z = f(4);",
+                ["2:17", "3:15"],
+            ),
             # (children are evaluated for the module that has them, and stand in the source at their own place)
             (rod + "module at() children();\nat() rod(3); at() rod(1);", ["3:19"]),
             # (a module in a body is told by the call of the one around it)

@@ -11,7 +11,9 @@ class ByHand(unittest.TestCase):
     def test_a_cube_of_27_points_has_8_corners_and_6_facets(self):
         body = hull(itertools.product(range(3), repeat=3))
         self.assertEqual(body.corners, list(itertools.product((0, 2), repeat=3)))
-        self.assertEqual(set(body.facets), {(-1, 0, 0, 0), (1, 0, 0, 2), (0, -1, 0, 0), (0, 1, 0, 2), (0, 0, -1, 0), (0, 0, 1, 2)})
+        self.assertEqual(
+            set(body.facets), {(-1, 0, 0, 0), (1, 0, 0, 2), (0, -1, 0, 0), (0, 1, 0, 2), (0, 0, -1, 0), (0, 0, 1, 2)}
+        )
         self.assertEqual(volume6(body), 6 * 8)
 
     def test_a_facet_goes_counterclockwise_as_seen_from_outside(self):
@@ -32,7 +34,9 @@ class ByHand(unittest.TestCase):
         self.assertEqual(volume6(body), 6 * 4 * 4 * 6 // 3)
 
     def test_what_is_flat_has_none(self):
-        for points in ([], [(1, 2, 3)], [(0, 0, 0), (1, 1, 1), (2, 2, 2), (5, 5, 5)], [(x, y, x + y) for x in range(4) for y in range(4)]):
+        for points in (
+            [], [(1, 2, 3)], [(0, 0, 0), (1, 1, 1), (2, 2, 2), (5, 5, 5)], [(x, y, x + y) for x in range(4) for y in range(4)]
+        ):
             self.assertIsNone(hull(points))
 
     def test_a_prism_along_each_axis(self):

@@ -40,10 +40,10 @@ class Tables(unittest.TestCase):
 
 class Lines(unittest.TestCase):
     CASES = [
-        ("NotWhole", b"cube(2.5);", 6, "2.5 is no whole number"),
-        ("NotWhole", b"cube(.5e1);", 6, ".5e1 is no whole number"),
-        ("NotWhole", b"w = 7 / 2;", 7, "what / gives is no whole number"),
-        ("NotWhole", b"w = pow(2, -1);", 5, "what pow gives is no whole number"),
+        ("NotWhole", b"cube(2.5);", 6, "2.5 is not a whole number"),
+        ("NotWhole", b"cube(.5e1);", 6, ".5e1 is not a whole number"),
+        ("NotWhole", b"w = 7 / 2;", 7, "what / gives is not a whole number"),
+        ("NotWhole", b"w = pow(2, -1);", 5, "what pow gives is not a whole number"),
         ("TooLarge", b"w = 9007199254740992;", 5, "9007199254740992 is past 2^53 - 1"),
         ("TooLarge", b"w = pow(2, 53);", 5, "what pow gives is past 2^53 - 1"),
         ("TooLarge", b"w = a + b;", 7, "what + gives is past 2^53 - 1"),
@@ -59,7 +59,12 @@ class Lines(unittest.TestCase):
         ("Expected", b'"' + b"x" * 99, 1, '"' + "x" * 39 + ".. can't follow what stands before it"),
         ("Expected", None, 1, "the source ends in the middle of a statement"),
         ("NotInProfile", b"cylinder(2, r = 3);", 1, "this form of cylinder is left out of this profile of OpenSCAD"),
-        ("NotInProfile", b"hull() difference() { cube(2); cube(1); }", 1, "this form of hull is left out of this profile of OpenSCAD"),
+        (
+            "NotInProfile",
+            b"hull() difference() { cube(2); cube(1); }",
+            1,
+            "this form of hull is left out of this profile of OpenSCAD",
+        ),
         ("BadCharacter", b"\xef\xbb\xbfcube(1);", 1, "a byte order mark can't stand here"),
         ("BadCharacter", b"x = \xef\xbb\xbf\xc3\xa4;", 5, "\\ufeffä can't stand here"),
         ("BadCharacter", b"cube(\x00);", 6, "\\x00 can't stand here"),
@@ -123,7 +128,9 @@ class Explanations(Calls):
     @unittest.skipUnless(os.path.isfile(faults.DOCUMENT), "docs/FAULTS.md is not there")
     def test_an_unknown_word_is_told(self):
         self.assertEqual(
-            self.call("--explain", "Nonsense"), (2, b"", b"scad2off: neither docs/FAULTS.md nor docs/differences.txt explains Nonsense\n")
+            self.call("--explain", "Nonsense"), (
+                2, b"", b"scad2off: neither docs/FAULTS.md nor docs/differences.txt explains Nonsense\n"
+            )
         )
 
 

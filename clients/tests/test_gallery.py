@@ -98,7 +98,9 @@ ROUND = {
     "ring": (2 * polygon(24) * 12.5 * polygon(12) * 3.2**2, (31.4, 31.4, 6.4), 1600),
     "enclosure": (rounded(62.4, 41.8, 4) * 23.5 - rounded(58.8, 38.2, 2.2) * 21.7 - SLOT_24, (62.4, 41.8, 23.5), 15000),
     "nut": (polygon(6) * 5.75**2 * 5.2 - stack(24, BORE), (11.5, 11.5 * math.sqrt(3) / 2, 5.2), 400),
-    "bowl": (half_ball(20) - half_ball(18.4), (40 * math.cos(math.radians(7.5)), 40 * math.cos(math.radians(7.5)), 19.83), 5000),
+    "bowl": (
+        half_ball(20) - half_ball(18.4), (40 * math.cos(math.radians(7.5)), 40 * math.cos(math.radians(7.5)), 19.83), 5000
+    ),
 }
 
 

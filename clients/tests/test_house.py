@@ -88,8 +88,12 @@ class House(unittest.TestCase):
     def test_what_is_written(self):
         self.call("--write")
         page = self.page.read_text()
-        self.assertIn("    roof    what is made of words\n            high_words\n\n    ground  words\n            low_words\n", page)
-        self.assertIn("| Layer | Crate | Stands on | What it is |\n|---|---|---|---|\n| ground | low_words | `itoa` | Words |\n", page)
+        self.assertIn(
+            "    roof    what is made of words\n            high_words\n\n    ground  words\n            low_words\n", page
+        )
+        self.assertIn(
+            "| Layer | Crate | Stands on | What it is |\n|---|---|---|---|\n| ground | low_words | `itoa` | Words |\n", page
+        )
         self.assertIn("| roof | high_words | low_words | What is made of words |\n", page)
 
     def test_a_crate_that_stands_on_a_higher_layer(self):
@@ -106,7 +110,9 @@ class House(unittest.TestCase):
 
     def test_a_layer_that_one_must_not_know_and_that_is_not_below_it(self):
         for name in ("cellar", "roof"):
-            self.list(f"# ground: words\n# must not know: {name}\nlow_words:\n# roof: what is made of words\nhigh_words: low_words\n")
+            self.list(
+                f"# ground: words\n# must not know: {name}\nlow_words:\n# roof: what is made of words\nhigh_words: low_words\n"
+            )
             self.assert_fault(f"there is no layer {name} below the one that must not know it")
 
     def test_a_crate_that_stands_on_a_library_that_none_may(self):
@@ -135,9 +141,39 @@ class House(unittest.TestCase):
         self.list("# ground: words\nlow_words:\nhigh_words: low_words\nmute_words:\n")
         self.assert_fault("crates/mute_words/src")
 
+    def proof(self, crate, name, text):
+        file = self.top / "crates" / crate / "proofs" / name
+        file.parent.mkdir(parents=True, exist_ok=True)
+        file.write_text(text)
+
+    def test_an_import_of_proofs_that_are_not_shared(self):
+        self.proof("low_words", "Own.antt", "use Rattle.low_words.proofs.Other.{x}\n")
+        self.call("--write")
+        self.assertEqual(self.call(), (0, ""))
+        self.proof("high_words", "High.antt", "use Rattle.std.proofs.Common.{y}\nuse Rattle.low_words.proofs.Own.{x}\n")
+        told = "it imports Own of low_words, which stands in no folder of lemmas"
+        self.assert_fault(f"crates/high_words/proofs/High.antt: {told}")
+
+    def test_an_import_of_proofs_that_are_not_shared_in_a_body(self):
+        with (self.top / "crates" / "high_words" / "src" / "lib.rt").open("a") as source:
+            source.write("ghost use Rattle.low_words.proofs.Own.{x};\n")
+        self.assert_fault("crates/high_words/src/lib.rt: it imports Own of low_words")
+
+    def test_proofs_that_are_not_shared_in_a_tactic(self):
+        with (self.top / "crates" / "high_words" / "src" / "lib.rt").open("a") as source:
+            source.write("#[tactic(auto, using(crate::proofs::High::y, low_words::proofs::Own::x))]\n")
+        self.assert_fault("crates/high_words/src/lib.rt: it imports Own of low_words")
+
+    def test_lemmas_that_are_shared(self):
+        self.proof("low_words", "lemmas/Shared.antt", "x = refl\n")
+        self.proof("high_words", "main/Answers.antt", "use Rattle.low_words.proofs.lemmas.Shared.{x}\n")
+        self.assertEqual(self.call("--write"), (0, ""))
+        self.proof("high_words", "main/Answers.antt", "")
+        self.assert_fault("crates/low_words/proofs/lemmas/Shared.antt: no other crate imports it")
+
     def test_a_name_that_is_no_crate(self):
         self.page.write_text(PAGE + "\n`gone_words` was a crate.\n")
-        self.assert_fault("gone_words is no crate")
+        self.assert_fault("gone_words is not a crate")
 
     def test_a_page_without_a_place_for_the_table(self):
         self.page.write_text(PAGE.partition("<!-- made by tools/house.py: table")[0])
@@ -146,7 +182,9 @@ class House(unittest.TestCase):
     def test_how_many_functions_may_wait(self):
         self.call("--write")
         log = self.top / "log"
-        log.write_text("== low_words\nlogic=proved functions=1 sum=0\n== high_words\nlogic=proved functions=3 may-wait=2 sum=0\n")
+        log.write_text(
+            "== low_words\nlogic=proved functions=1 sum=0\n== high_words\nlogic=proved functions=3 may-wait=2 sum=0\n"
+        )
         self.assertEqual(self.call("--gate", str(log)), (0, ""))
         log.write_text("== low_words\nlogic=proved functions=1 may-wait=1 sum=0\nrt: high_words is kept\n")
         self.assertEqual(self.call("--gate", str(log)), (1, "crates.txt: 1 functions of low_words may wait, and not 0\n"))

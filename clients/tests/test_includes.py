@@ -68,8 +68,11 @@ CASES = {
         ((0, 0, 0), (27, 7, 7)), 8 + 343,
     ),
     "of two uses the later one counts": (
-        {"part.scad": "use <a.scad>\nuse <b.scad>\nm(); n();", "a.scad": "module m() cube(3); module n() translate([9, 0, 0]) m();",
-         "b.scad": "module m() cube(4);"},
+        {
+            "part.scad": "use <a.scad>\nuse <b.scad>\nm(); n();",
+            "a.scad": "module m() cube(3); module n() translate([9, 0, 0]) m();",
+            "b.scad": "module m() cube(4);",
+        },
         ((0, 0, 0), (12, 4, 4)), 64 + 27,
     ),
     "a use again makes it the later one": (
@@ -93,7 +96,8 @@ CASES = {
         ((0, 0, 0), (11, 3, 3)), 27 + 4,
     ),
     "a used file's cube goes before the built-in one": (
-        {"part.scad": "use <lib.scad>\nuse <other.scad>\ncube(2); other();", "lib.scad": "module cube(s) linear_extrude(1) square(s);",
+        {"part.scad": "use <lib.scad>\nuse <other.scad>\ncube(2); "
+                      "other();", "lib.scad": "module cube(s) linear_extrude(1) square(s);",
          "other.scad": "module other() translate([9, 0, 0]) cube(2);"},
         ((0, 0, 0), (11, 2, 2)), 4 + 8,
     ),
@@ -128,17 +132,24 @@ CASES = {
         ((0, 0, 0), (89, 9, 9)), 27 + 8 + 64 + 27 + 1 + 729,
     ),
     "a used file that uses another one gives it that one's": (
-        {"part.scad": "use <lib.scad>\nm(2); o();\nmodule o() { module m(x) translate([0, 20, 0]) cube([x, $k, 1]); $k = 1; m(3); }",
+        {"part.scad": "use <lib.scad>\nm(2); o();\nmodule o() { module m(x) translate([0, 20, 0]) cube([x, $k, 1]); $k = 1; "
+                      "m(3); }",
          "lib.scad": "use <in.scad>\n$k = 3;\nmodule m(x) { n(x); translate([9, 0, 0]) cube([x, $k, 1]); }",
          "in.scad": "w = 2; $k = w; $j = 4; module n(x) cube([x, $k, $j]);"},
         ((0, 0, 0), (11, 21, 4)), 16 + 6 + 3,
     ),
     "children see the variables of their own file": (
-        {"part.scad": "use <lib.scad>\nd = 2;\nat() cube(d);", "lib.scad": "d = 5;\nmodule at() translate([d, 0, 0]) children();"},
+        {
+            "part.scad": "use <lib.scad>\nd = 2;\nat() cube(d);",
+            "lib.scad": "d = 5;\nmodule at() translate([d, 0, 0]) children();",
+        },
         ((5, 0, 0), (7, 2, 2)), 8,
     ),
     "functions of a used file are known to assignments": (
-        {"part.scad": "w = f(2);\ncube(w);\nuse <lib.scad>", "lib.scad": "k = 3; function f(x) = g(x) + k; function g(x) = x * k;"},
+        {
+            "part.scad": "w = f(2);\ncube(w);\nuse <lib.scad>",
+            "lib.scad": "k = 3; function f(x) = g(x) + k; function g(x) = x * k;",
+        },
         ((0, 0, 0), (9, 9, 9)), 729,
     ),
     "a file that is included may use others": (
@@ -213,7 +224,9 @@ class Solids(Sources):
         names = {f"case{number}": name for number, name in enumerate(CASES)}
         for folder, name in names.items():
             for file, text in CASES[name][0].items():
-                place = file if file.startswith("libraries/") else os.path.join(folder, file.replace("part.scad", f"{folder}.scad"))
+                place = file if file.startswith("libraries/") else os.path.join(
+                    folder, file.replace("part.scad", f"{folder}.scad")
+                )
                 os.makedirs(os.path.dirname(self.path(place)), exist_ok=True)
                 self.file(place, text.encode())
         status, said = self.call("-d", "out", *(f"{it}/{it}.scad" for it in names))
@@ -262,11 +275,13 @@ class Faults(Sources):
             self.assertEqual(self.told(files)[0], said)
 
     def test_a_fault_in_an_included_file_is_told_there_and_where_it_is_included(self):
-        files = {"part.scad": "w=6;\n  include <d/lib.scad>\n", "d/lib.scad": "include <inner.scad>", "d/inner.scad": "\n cube(2.5);"}
+        files = {
+            "part.scad": "w=6;\n  include <d/lib.scad>\n", "d/lib.scad": "include <inner.scad>", "d/inner.scad": "\n cube(2.5);"
+        }
         self.assertEqual(
             self.told(files),
             [
-                "d/inner.scad:2:7: error: NotWhole: 2.5 is no whole number",
+                "d/inner.scad:2:7: error: NotWhole: 2.5 is not a whole number",
                 "     cube(2.5);",
                 "          ^",
                 "d/lib.scad:1:1: note: included here",
@@ -278,7 +293,7 @@ class Faults(Sources):
         files = {"part.scad": "include <a.scad> cube(2.5);\n", "a.scad": "w = 3;\nx = 4;\n\n"}
         self.assertEqual(
             self.told(files),
-            ["part.scad:1:23: error: NotWhole: 2.5 is no whole number", "    include <a.scad> cube(2.5);", " " * 26 + "^"],
+            ["part.scad:1:23: error: NotWhole: 2.5 is not a whole number", "    include <a.scad> cube(2.5);", " " * 26 + "^"],
         )
         files = {"part.scad": "w=6;\ninclude\n<a.scad>\n//= open\n\n", "a.scad": "\n\n"}
         self.assertEqual(self.told(files)[0], "part.scad:5:1: error: Expected: can't follow what stands before it".replace(
@@ -293,7 +308,7 @@ class Faults(Sources):
         self.assertEqual(
             self.told(files),
             [
-                "lib.scad:1:46: error: NotWhole: 2.5 is no whole number",
+                "lib.scad:1:46: error: NotWhole: 2.5 is not a whole number",
                 "    " + files["lib.scad"],
                 " " * 49 + "^",
                 "part.scad:1:1: note: used here",
@@ -350,7 +365,9 @@ class Faults(Sources):
         files = {f"a{it}.scad": f"include <a{it + 1}.scad>" * 2 for it in range(40)}
         self.assertIn("error: TooManyFiles: ", self.told({"part.scad": "include <a0.scad>", **files, "a40.scad": ""})[0])
         files = {f"a{it}.scad": f"use <a{it + 1}.scad>" * 2 for it in range(40)}
-        self.assertIn("a40.scad:1:3: error: NotWhole", self.told({"part.scad": "use <a0.scad>", **files, "a40.scad": "x=2.5;"})[0])
+        self.assertIn(
+            "a40.scad:1:3: error: NotWhole", self.told({"part.scad": "use <a0.scad>", **files, "a40.scad": "x=2.5;"})[0]
+        )
 
     def test_what_a_used_file_cannot_be_told_apart_by_is_refused(self):
         for lib, said in (
@@ -368,7 +385,10 @@ class Faults(Sources):
             ("m(x = [f()])", "part.scad:2:8: error: NotInProfile: f asks for $k in a call of a used file that assigns it"),
             ("m(x = g())", "part.scad:2:7: error: NotInProfile: g asks for $k in a call of a used file that assigns it"),
         ):
-            files = {"part.scad": f"use <l.scad>\n{call};\nfunction g() = $k;", "l.scad": "$k = 3; function f() = 1 + $k; module m() {}"}
+            files = {
+                "part.scad": f"use <l.scad>\n{call};\nfunction g() = $k;",
+                "l.scad": "$k = 3; function f() = 1 + $k; module m() {}",
+            }
             self.assert_refused(files, said)
         said = "part.scad:2:7: error: Expected: the source ends in the middle of a statement"
         self.assert_refused({"part.scad": "use <l.scad>\ncube(1", "l.scad": ""}, said)
@@ -397,8 +417,15 @@ class Faults(Sources):
             self.assertTrue(said.startswith(f"-D w={value}:1:{column}: error: NotInProfile: "), said)
 
     def test_other_uses_of_files_are_left_to_the_server(self):
-        for source in ("if (true) { use <a.scad> }", "x = use <a.scad>;", "include a.scad;", "use <a.scad", "$include <a.scad>;",
-                       "includes <a.scad>;", "module m() use <a.scad>"):
+        for source in (
+            "if (true) { use <a.scad> }",
+            "x = use <a.scad>;",
+            "include a.scad;",
+            "use <a.scad",
+            "$include <a.scad>;",
+            "includes <a.scad>;",
+            "module m() use <a.scad>",
+        ):
             self.write_all({"part.scad": source})
             self.assertEqual(self.script().splitlines()[0], b"a put 1 " + source.encode())
 
@@ -425,11 +452,14 @@ class Names(Sources):
              "l.scad:1:17: error: UnknownName: w has no value here"),
             ({"part.scad": "use <l.scad>\nuse <k.scad>\nm();", "l.scad": "module m() n();", "k.scad": "module n() cube(2);"},
              "l.scad:1:12: error: UnknownModule: there is no module n"),
-            ({"part.scad": "use <l.scad>\ncube(w);", "l.scad": "w = 3;"}, "part.scad:2:6: error: UnknownName: w has no value here"),
+            (
+                {"part.scad": "use <l.scad>\ncube(w);", "l.scad": "w = 3;"},
+                "part.scad:2:6: error: UnknownName: w has no value here",
+            ),
             ({"part.scad": "use <l.scad>\nn();", "l.scad": "use <k.scad>", "k.scad": "module n() cube(2);"},
              "part.scad:2:1: error: UnknownModule: there is no module n"),
             ({"part.scad": "use <l.scad>\nw = 2; m(5);", "l.scad": "w = 3; module m(x) cube([w, x / w, 1]);"},
-             "l.scad:1:31: error: NotWhole: what / gives is no whole number"),
+             "l.scad:1:31: error: NotWhole: what / gives is not a whole number"),
         ):
             with self.subTest(said=said):
                 self.write_all(files)

@@ -65,7 +65,9 @@ class Found(Calls):
             os.makedirs(os.path.dirname(self.path(name)), exist_ok=True)
             self.write(name, "use <round.scad>\n")
         self.assertIn("module prism(r, h, corners = 12) ", "".join(self.sent("part.scad")))
-        for folder, words, environment in (("path", (), {"OPENSCADPATH": "path"}), ("named", ("-I", "named"), {"OPENSCADPATH": "path"})):
+        for folder, words, environment in (
+            ("path", (), {"OPENSCADPATH": "path"}), ("named", ("-I", "named"), {"OPENSCADPATH": "path"})
+        ):
             self.write(f"{folder}/round.scad", f"module {folder}() cube(1);\n")
             sent = self.sent(*words, "part.scad", environment=environment)
             self.assertEqual(len(sent), 1)
@@ -82,7 +84,9 @@ class Found(Calls):
         self.assertEqual(said.decode().splitlines()[0], f"ECHO: {path}")
 
     def test_it_is_read_where_it_is_included(self):
-        self.assertIn("module plate(size, r, corners = 12) ", "".join(self.sent(self.write("part.scad", "include <round.scad>\n"))))
+        self.assertIn(
+            "module plate(size, r, corners = 12) ", "".join(self.sent(self.write("part.scad", "include <round.scad>\n")))
+        )
 
 
 @needs_program
@@ -92,8 +96,12 @@ class Corners(unittest.TestCase):
         return solve([f"use <round.scad>\n{it}" for it in shapes], server=PROGRAM)
 
     def test_a_prism_has_the_corners_of_openscads_cylinder_rounded(self):
-        wanted = [(corners, radius) for corners, least in LEAST.items() for radius in (*range(least, 26), 65, 99, 1000, 2047, 4095)]
-        for (corners, radius), it in zip(wanted, self.solved(*(f"prism({radius}, 2, {corners});" for corners, radius in wanted))):
+        wanted = [
+            (corners, radius) for corners, least in LEAST.items() for radius in (*range(least, 26), 65, 99, 1000, 2047, 4095)
+        ]
+        for (corners, radius), it in zip(
+            wanted, self.solved(*(f"prism({radius}, 2, {corners});" for corners, radius in wanted))
+        ):
             with self.subTest(corners=corners, radius=radius):
                 self.assertIsInstance(it, Solid)
                 loop = circle(radius, corners)
@@ -104,7 +112,9 @@ class Corners(unittest.TestCase):
                 self.assertLessEqual(found, {(x, y, z) for x, y in loop for z in (0, 2)})
 
     def test_a_smaller_radius_fails(self):
-        for (corners, least), it in zip(LEAST.items(), self.solved(*(f"prism({least - 1}, 2, {corners});" for corners, least in LEAST.items()))):
+        for (corners, least), it in zip(
+            LEAST.items(), self.solved(*(f"prism({least - 1}, 2, {corners});" for corners, least in LEAST.items()))
+        ):
             self.assertIsInstance(it, Fault)
             self.assertEqual((it.word, os.path.basename(it.file)), ("AssertFailed", "round.scad"), corners)
         [it] = self.solved("prism(20, 2, 10);")
@@ -135,7 +145,9 @@ class BesideOpenscad(Calls):
         lines = [f"translate([{60 * at}, 0, 0]) {shape}\n" for at, shape in enumerate(SCENE)]
         self.write("scene.scad", "use <round.scad>\n" + "".join(lines))
         path = {**os.environ, "OPENSCADPATH": LIBRARY}
-        subprocess.run(["openscad", "-o", "scene.off", "scene.scad"], cwd=self.folder, env=path, capture_output=True, check=True)
+        subprocess.run(
+            ["openscad", "-o", "scene.off", "scene.scad"], cwd=self.folder, env=path, capture_output=True, check=True
+        )
         with open(self.path("scene.off"), encoding="ascii") as it:
             words = it.read().split("\n")
         corners = int(words[1].split()[0]) if words[0] == "OFF" else int(words[0].split()[1])

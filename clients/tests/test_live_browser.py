@@ -1,5 +1,5 @@
-"""The page of scadlive in a browser, with CodeMirror and with a text area, before a stand-in for the server, whose solid is a box
-with a side of 1 or of the last `w=N` in the text."""
+"""The page of scadlive in a browser, with CodeMirror and with a text area, before a stand-in for the server, whose solid is a
+box with a side of 1 or of the last `w=N` in the text."""
 
 from __future__ import annotations
 
@@ -23,7 +23,10 @@ from tests.live_case import PATIENCE
 from tests.solids import CUT_CUBE, box, off
 from tests.page_case import PAINTED, RESTS
 
-FIRST = "/* [Size] */\n// how wide it is\nw = 2; // [1:9]\nhollow = false;\nlook = \"plain\"; // [plain, round:a round one]\nat = [1, 2];\n"
+FIRST = (
+    "/* [Size] */\n// how wide it is\nw = 2; // [1:9]\nhollow = false;\nlook = \"plain\"; // [plain, round:a round one]\nat = "
+    "[1, 2];\n"
+)
 # The browser's code of a key that is held.
 CONTROL = 2
 Point = Tuple[Fraction, Fraction, Fraction]
@@ -68,15 +71,24 @@ class Page(live_case.Case):
         self.until(f"document.getElementById('box').innerText === '{side} x {side} x {side}'")
 
     def focus(self) -> None:
-        self.browser.run("(document.querySelector('.CodeMirror textarea') ?? document.querySelector('.plain textarea')).focus()")
+        self.browser.run(
+            "(document.querySelector('.CodeMirror textarea') ?? document.querySelector('.plain textarea')).focus()"
+        )
 
     def text(self) -> str:
-        return str(self.browser.run("document.querySelector('.CodeMirror')?.CodeMirror.getValue() ?? document.querySelector('.plain textarea').value"))
+        code, plain = "document.querySelector('.CodeMirror')", "document.querySelector('.plain textarea')"
+        return str(self.browser.run(f"{code}?.CodeMirror.getValue() ?? {plain}.value"))
 
-    def cursor(self) -> "list[int]":
+    def cursor(self) -> list[int]:
         """The line and the column of the cursor, from 0."""
-        plain = "(() => { const area = document.querySelector('.plain textarea'); const before = area.value.slice(0, area.selectionStart).split('\\n'); return [before.length - 1, before.at(-1).length]; })()"
-        code = "(() => { const { line, ch } = document.querySelector('.CodeMirror').CodeMirror.getCursor(); return [line, ch]; })()"
+        plain = (
+            "(() => { const area = document.querySelector('.plain textarea'); const before = area.value.slice(0, "
+            "area.selectionStart).split('\\n'); return [before.length - 1, before.at(-1).length]; })()"
+        )
+        code = (
+            "(() => { const { line, ch } = document.querySelector('.CodeMirror').CodeMirror.getCursor(); return [line, ch]; "
+            "})()"
+        )
         return list(self.browser.run(f"document.querySelector('.CodeMirror') ? {code} : {plain}"))
 
     def type(self, text: str) -> None:
@@ -85,7 +97,7 @@ class Page(live_case.Case):
         self.control("a", ["selectAll"])
         self.browser.ask("Input.insertText", text=text)
 
-    def control(self, key: str, commands: "list[str] | None" = None) -> None:
+    def control(self, key: str, commands: list[str] | None = None) -> None:
         values = {"key": key, "code": f"Key{key.upper()}", "windowsVirtualKeyCode": ord(key.upper()), "modifiers": CONTROL}
         self.browser.ask("Input.dispatchKeyEvent", type="keyDown", **values, **({"commands": commands} if commands else {}))
         self.browser.ask("Input.dispatchKeyEvent", type="keyUp", **values)
@@ -103,7 +115,7 @@ class Page(live_case.Case):
             self.assertLess(time.monotonic(), end, name)
             time.sleep(0.02)
 
-    def complaints(self) -> "list[Any]":
+    def complaints(self) -> list[Any]:
         """What went wrong in the page; an answer that tells a fault of the text is no such thing."""
         found = self.browser.complaints()
         return [it for it in found if it.get("entry", {}).get("source") not in ("rendering", "network")]
@@ -151,17 +163,36 @@ class Editing:
         self.assertFalse(self.browser.run("document.querySelector('.marked.fault, .numbers .fault') !== null"))
         self.assertEqual(self.browser.run("getComputedStyle(view).opacity"), "1")
 
+    def test_what_openscad_takes_for_another_solid_is_noted_and_a_click_goes_to_its_place(self: Any) -> None:
+        self.type("// two solids\nw = 3;\nlinear_extrude(4, true) square(2);")
+        self.until_side(3)
+        self.until("document.querySelector('#faults .note') !== null")
+        said = self.told("faults")
+        self.assertIn("OpenSCAD takes this for another solid: here the second argument without a name of linear_extrude", said)
+        self.assertIn("first.scad:3:19", said)
+        self.assertFalse(self.browser.run("document.getElementById('shown').classList.contains('is-old')"))
+        marked = "document.querySelector('.marked.note')?.textContent ?? document.querySelector('.numbers .note').textContent"
+        self.assertIn(self.browser.run(marked), ("true", "3"))
+        self.click("#faults button")
+        self.assertEqual(self.cursor(), [2, 18])
+        self.type("w = 4;")
+        self.until_side(4)
+        self.until("document.getElementById('faults').childElementCount === 0")
+        self.assertEqual(self.complaints(), [])
+
     def test_parameters_are_fields_whose_values_go_into_the_text(self: Any) -> None:
         kinds = "[...document.querySelectorAll('#fields input, #fields select')].map((it) => it.type)"
         self.assertEqual(self.browser.run(kinds), ["range", "number", "checkbox", "select-one", "number", "number"])
         self.assertIn("how wide it is", self.told("fields"))
-        self.browser.run("(() => { const it = document.querySelector('#fields input[type=range]'); it.value = 7; it.dispatchEvent(new Event('input')); })()")
+        self.browser.run("(() => { const it = document.querySelector('#fields input[type=range]'); it.value = 7; "
+                         "it.dispatchEvent(new Event('input')); })()")
         self.until_side(7)
         self.assertEqual(self.text(), FIRST)
         self.click("[data-name=w] button")
         self.until("document.getElementById('state').innerText === 'changed'")
         self.assertEqual(self.text(), FIRST.replace("w = 2", "w = 7"))
-        self.browser.run("(() => { const it = document.querySelector('#fields select'); it.value = '\"round\"'; it.dispatchEvent(new Event('change')); })()")
+        self.browser.run("(() => { const it = document.querySelector('#fields select'); it.value = '\"round\"'; "
+                         "it.dispatchEvent(new Event('change')); })()")
         self.click("#write-all")
         self.assertEqual(self.text(), FIRST.replace("w = 2", "w = 7").replace('"plain"', '"round"'))
         self.until_side(7)
@@ -221,7 +252,11 @@ class Editing:
         parts = []
         for _ in range(4):
             self.press("F6", 117)
-            parts.append(self.browser.run("document.activeElement.closest('#editor, #parameters, #shown, #faults, header').id || 'header'"))
+            parts.append(
+                self.browser.run(
+                    "document.activeElement.closest('#editor, #parameters, #shown, #faults, header').id || 'header'"
+                )
+            )
         self.assertEqual(parts, ["parameters", "shown", "header", "editor"])
         self.press("Tab", 9)
         self.assertFalse(self.browser.run("document.getElementById('editor').contains(document.activeElement)"))
@@ -239,9 +274,13 @@ class Editing:
         self.until("document.documentElement.dataset.faults === 'NotWhole'")
         self.browser.ask("Accessibility.enable")
         nodes = self.browser.ask("Accessibility.getFullAXTree")["nodes"]
-        reached = [it for it in nodes if any(p["name"] == "focusable" and p["value"].get("value") for p in it.get("properties", []))]
+        reached = [
+            it for it in nodes if any(p["name"] == "focusable" and p["value"].get("value") for p in it.get("properties", []))
+        ]
         roles = {it["role"]["value"] for it in reached}
-        self.assertLessEqual({"button", "combobox", "checkbox", "slider", "spinbutton", "textbox", "application", "separator"}, roles)
+        self.assertLessEqual(
+            {"button", "combobox", "checkbox", "slider", "spinbutton", "textbox", "application", "separator"}, roles
+        )
         # (what scrolls can be reached, too, and is named by the section around it)
         nameless = {it["role"]["value"] for it in reached if not it.get("name", {}).get("value")}
         self.assertLessEqual(nameless, {"generic"})
@@ -278,7 +317,8 @@ class WithCodeMirror(Editing, Page):
 
     def test_files_are_chosen_and_made(self) -> None:
         self.assertEqual(self.told("file").split(), ["first.scad", "second.scad"])
-        self.browser.run("(() => { const it = document.getElementById('file'); it.value = 'second.scad'; it.dispatchEvent(new Event('change')); })()")
+        self.browser.run("(() => { const it = document.getElementById('file'); it.value = 'second.scad'; it.dispatchEvent(new "
+                         "Event('change')); })()")
         self.until_side(5)
         self.assertEqual((self.text(), self.browser.run("location.hash")), ("w = 5;\n", "#second.scad"))
         self.click("#new")
@@ -305,7 +345,9 @@ class WithCodeMirror(Editing, Page):
         folder = tempfile.mkdtemp()
         self.addCleanup(shutil.rmtree, folder, True)
         self.browser.ask("Page.setDownloadBehavior", behavior="allow", downloadPath=folder)
-        for form, name, begins in (("stl", "first.stl", b"solid first\n"), ("3mf", "first.3mf", b"PK"), ("html", "first.html", b"<!DOCTYPE html>")):
+        for form, name, begins in (
+            ("stl", "first.stl", b"solid first\n"), ("3mf", "first.3mf", b"PK"), ("html", "first.html", b"<!DOCTYPE html>")
+        ):
             self.browser.run(f"document.getElementById('format').value = '{form}'")
             self.click("#download")
             end = time.monotonic() + PATIENCE
@@ -318,8 +360,9 @@ class WithCodeMirror(Editing, Page):
         (self.folder / name).write_text("/* [<b id=bad>] */\n// <b id=bad>\nw = 2; // [1:9]\n")
         self.show("first.scad")
         self.until("document.getElementById('file').options.length === 3")
-        self.browser.run(f"(() => {{ const it = document.getElementById('file'); it.value = {json.dumps(name)}; it.dispatchEvent(new Event('change')); }})()")
-        self.until(f"document.title.includes('onerror')")
+        self.browser.run(f"(() => {{ const it = document.getElementById('file'); it.value = {json.dumps(name)}; "
+                         f"it.dispatchEvent(new Event('change')); }})()")
+        self.until("document.title.includes('onerror')")
         self.type('assert(false, "<b id=bad>");\n<b id=bad>2.5')
         self.until("document.documentElement.dataset.faults === 'NotWhole'")
         self.assertFalse(self.browser.run("document.getElementById('bad') !== null || document.querySelector('img') !== null"))
@@ -341,7 +384,7 @@ def point(text: str) -> Point:
     return Fraction(x, w), Fraction(y, w), Fraction(z, w)
 
 
-def cut(start: Point, end: Point, corners: "set[Point]") -> "list[tuple[Point, Point]]":
+def cut(start: Point, end: Point, corners: set[Point]) -> list[tuple[Point, Point]]:
     """The parts of a way between the corners that lie inside it."""
     along = [b - a for a, b in zip(start, end)]
     axis = next(it for it in range(3) if along[it])
@@ -354,10 +397,10 @@ def cut(start: Point, end: Point, corners: "set[Point]") -> "list[tuple[Point, P
     return list(zip(places, places[1:]))
 
 
-def ways_on_planes(drawn: "dict[str, Any]") -> "dict[tuple[Any, ...], list[tuple[Point, Point]]]":
+def ways_on_planes(drawn: dict[str, Any]) -> dict[tuple[Any, ...], list[tuple[Point, Point]]]:
     """The ways of the loops on each plane."""
     places = [point(it) for it in drawn["corners"]]
-    found: "dict[tuple[Any, ...], list[tuple[Point, Point]]]" = {}
+    found: dict[tuple[Any, ...], list[tuple[Point, Point]]] = {}
     for plane in drawn["planes"]:
         ahead = [int(it) for it in plane["ahead"].split()]
         off = sum(a * b for a, b in zip(ahead, places[plane["loops"][0][0]]))
@@ -380,9 +423,9 @@ class Solids(live_case.Case):
     def found(self, text: str, unit: str = "1") -> Any:
         return self.browser.run(f"import('./page/solid.js').then(({{ solidOf }}) => solidOf({json.dumps(text)}, '{unit}'))")
 
-    def assert_alike(self, one: "dict[str, Any]", other: "dict[str, Any]", name: str) -> None:
-        """Both draw the same edges on each plane. Where faces on a plane touch at a corner, loops may go on the one way or the other
-        there, and straight through the corner or not, so ways are cut at all corners."""
+    def assert_alike(self, one: dict[str, Any], other: dict[str, Any], name: str) -> None:
+        """Both draw the same edges on each plane. Where faces on a plane touch at a corner, loops may go on the one way or the
+        other there, and straight through the corner or not, so ways are cut at all corners."""
         found, wanted = ways_on_planes(one), ways_on_planes(other)
         self.assertEqual(set(found), set(wanted), name)
         for plane, ways in found.items():
@@ -406,9 +449,13 @@ class Solids(live_case.Case):
 
     def test_lengths_are_in_millimetres_where_there_is_a_unit(self) -> None:
         facts = self.found(off(box((0, 0, 0), (2, 3, 6))).decode(), "1/10")["facts"]
-        self.assertEqual(facts, {"faces": "6", "box": "0.2 x 0.3 x 0.6", "ends": "(0, 0, 0) to (0.2, 0.3, 0.6)", "volume": "0.036"})
+        self.assertEqual(
+            facts, {"faces": "6", "box": "0.2 x 0.3 x 0.6", "ends": "(0, 0, 0) to (0.2, 0.3, 0.6)", "volume": "0.036"}
+        )
         facts = self.found(off(box((-1, 0, 0), (2, 3, 6))).decode(), "1/3")["facts"]
-        self.assertEqual((facts["box"], facts["ends"], facts["volume"]), ("1 x 1 x 2", "(-1/3, 0, 0) to (2/3, 1, 2)", str(Fraction(2))))
+        self.assertEqual(
+            (facts["box"], facts["ends"], facts["volume"]), ("1 x 1 x 2", "(-1/3, 0, 0) to (2/3, 1, 2)", str(Fraction(2)))
+        )
 
     def test_the_empty_solid_is_none(self) -> None:
         self.assertIsNone(self.found("4OFF\n0 0 0\n"))

@@ -17,7 +17,7 @@ from scadserve.live.folder import MOST_BYTES
 from scadserve.live.media import FORMATS
 from scadserve.solid.formats import WRITERS
 from scadserve.tools.catalogue import parser_of
-from scadserve.tools.exporting import ending_of
+from scadserve.calls.mesh_words import ending_of
 from tests import live_case
 from tests.calls import PROGRAM, TOP, needs_program
 from tests.needs import needs
@@ -27,9 +27,9 @@ PAGE = Path(TOP, "docs", "LIVE.md")
 SERVICE = Path(TOP, "clients", "scadserve", "live", "scadlive.service")
 
 
-def console() -> "list[tuple[str, str]]":
+def console() -> list[tuple[str, str]]:
     """Each command of the page, with what it prints."""
-    found: "list[tuple[str, str]]" = []
+    found: list[tuple[str, str]] = []
     for block in re.findall(r"```console\n(.*?)```", PAGE.read_text("utf-8"), re.DOTALL):
         for line in block.splitlines(keepends=True):
             if line.startswith("$ "):
@@ -53,7 +53,9 @@ class Commands(live_case.Case):
             for command, printed in commands:
                 self.assertTrue(command.startswith("curl ") and "127.0.0.1:4780" in command, command)
                 words = command.replace("127.0.0.1:4780", self.live.host)
-                done = subprocess.run(["sh", "-c", words], cwd=folder, stdout=subprocess.PIPE, check=False, timeout=live_case.PATIENCE)
+                done = subprocess.run(
+                    ["sh", "-c", words], cwd=folder, stdout=subprocess.PIPE, check=False, timeout=live_case.PATIENCE
+                )
                 # (what ends without a newline, as the first bytes of a picture, stands on a line of its own in the page)
                 self.assertEqual(done.stdout.decode().rstrip("\n"), printed.rstrip("\n"), command)
             with zipfile.ZipFile(Path(folder, "bracket.3mf")) as package:
@@ -67,7 +69,7 @@ class Numbers(unittest.TestCase):
         defaults = {it.dest: it.default for it in parser_of("scadlive")._actions}
         for said in (
             f"A test sends {len(BAD)} bad requests",
-            f"read within {serving._READ:g} seconds and answered within {serving._WRITE:g} more",
+            f"read within {serving._READ:g} seconds, and answered within {serving._WRITE:g} more",
             f"At most {serving._MOST_CONNECTIONS} connections",
             f"`--jobs` runs ({defaults['jobs']})",
             f"`--seconds` ({defaults['seconds']:g})",
@@ -89,7 +91,9 @@ class Service(unittest.TestCase):
             unit.write_text(SERVICE.read_text().replace("ExecStart=scadlive", f"ExecStart={TOP}/bin/scadlive"))
             how = {**os.environ, "XDG_RUNTIME_DIR": folder, "HOME": folder}
             done = subprocess.run(
-                ["systemd-analyze", "--user", "verify", str(unit)], env=how, stdout=subprocess.PIPE, stderr=subprocess.STDOUT, check=False
+                [
+                    "systemd-analyze", "--user", "verify", str(unit)
+                ], env=how, stdout=subprocess.PIPE, stderr=subprocess.STDOUT, check=False
             )
             told = [it for it in done.stdout.decode().splitlines() if "scadlive" in it]
         self.assertEqual((done.returncode, told), (0, []), done.stdout)

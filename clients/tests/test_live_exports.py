@@ -46,10 +46,10 @@ class Queue(unittest.TestCase):
         self.addCleanup(exports.close)
         return exports
 
-    def ask(self, exports: Exports, client: str, text: str, half: bool = False) -> "Future[Any]":
+    def ask(self, exports: Exports, client: str, text: str, half: bool = False) -> Future[Any]:
         return self.pool.submit(exports.reply, client, source(text), half)
 
-    def hold(self, exports: Exports) -> "tuple[threading.Event, Future[Any]]":
+    def hold(self, exports: Exports) -> tuple[threading.Event, Future[Any]]:
         """Keeps a job busy until the event is set."""
         begun, end = threading.Event(), threading.Event()
         self.addCleanup(end.set)
@@ -62,10 +62,10 @@ class Queue(unittest.TestCase):
         self.assertTrue(begun.wait(PATIENCE))
         return end, done
 
-    def scripts(self) -> "list[bytes]":
+    def scripts(self) -> list[bytes]:
         return [it.read_bytes() for it in sorted(self.log.glob("*.script"))]
 
-    def assert_side(self, answer: "Future[Any]", side: int) -> None:
+    def assert_side(self, answer: Future[Any], side: int) -> None:
         """The answer is the stand-in's box with this side."""
         self.assertEqual(answer.result(PATIENCE)[1], Solid(8, 6, BOX.format(side).encode()))
 
@@ -179,7 +179,7 @@ class Queue(unittest.TestCase):
             bad.result(PATIENCE)
         self.assertEqual(failed.exception.status, 6)
 
-    def test_at_the_end_all_runs_are_ended_and_whoever_waits_is_told(self) -> None:
+    def test_at_the_end_all_runs_are_ended_and_each_waiter_is_told(self) -> None:
         exports = self.begin(1, 2 * PATIENCE)
         running = self.ask(exports, "a", COSTLY)
         self.until(lambda: len(self.scripts()) == 1)

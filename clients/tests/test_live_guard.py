@@ -28,7 +28,7 @@ BODY = b"Content-Length: 6\r\n\r\nw = 1;"
 MARKUP = "<script>alert(1)</script>"
 
 # Requests that are refused, each with its status. HOST stands for the server's own name.
-BAD: "list[tuple[bytes, int]]" = [
+BAD: list[tuple[bytes, int]] = [
     # Another name of the server, as a site has it that is bound anew to this address, or none.
     (b"GET / HTTP/1.1\r\n\r\n", 421),
     (b"GET / HTTP/1.1\r\nHost: example.org\r\n\r\n", 421),
@@ -165,16 +165,20 @@ class Tokens(live_case.Case):
         for path in ("/live/version", "/version"):
             self.assertEqual(self.live.ask("GET", path, headers=allowed).status, 200)
         self.assertEqual(self.live.ask("POST", "/live/solid", b"w = 1;", allowed).body, BOX.format(1).encode())
-        for name, value in (("Host", "example.org"), ("Origin", "https://example.org"), ("Origin", "https://parts.example.org.example.org")):
+        for name, value in (
+            ("Host", "example.org"), ("Origin", "https://example.org"), ("Origin", "https://parts.example.org.example.org")
+        ):
             self.assertIn(self.live.ask("POST", "/solid", b"w = 1;", {**allowed, name: value}).status, (403, 421))
         self.assertEqual(self.live.ask("GET", "/lively/version", headers=allowed).status, 404)
 
 
 class Words(unittest.TestCase):
-    def call(self, *words: str) -> "tuple[int, str]":
+    def call(self, *words: str) -> tuple[int, str]:
         how = {**os.environ, "SCADSERVE": STAND_IN}
         done = subprocess.run(
-            [sys.executable, "-S", os.path.join(TOP, "bin", "scadlive"), *words], env=how, capture_output=True, timeout=PATIENCE, check=False
+            [
+                sys.executable, "-S", os.path.join(TOP, "bin", "scadlive"), *words
+            ], env=how, capture_output=True, timeout=PATIENCE, check=False
         )
         self.assertEqual(done.stdout, b"")
         return done.returncode, done.stderr.decode()
@@ -186,12 +190,12 @@ class Words(unittest.TestCase):
             for words, part in (
                 (("--bind", "0.0.0.0"), "so it takes --token"),
                 (("--bind", "::"), "so it takes --token"),
-                (("--bind", "localhost"), "no address in numbers"),
+                (("--bind", "localhost"), "is not an address in numbers"),
                 (("--token", "short"), "8 to 200"),
                 (("--token", "with a blank in it"), "8 to 200"),
-                (("--port", "65536"), "no port"),
+                (("--port", "65536"), "is not a port"),
                 (("--jobs", "0"), "from 1 to 64"),
-                (("--seconds", "0"), "no number of seconds"),
+                (("--seconds", "0"), "is not a number of seconds"),
                 (("--base", "ftp://example.org/"), "neither an address"),
                 (("--base", "/a?b"), "other signs"),
                 ((os.path.join(folder, "a.stl"),), "neither a folder nor a source"),
@@ -239,7 +243,7 @@ class Slow(unittest.TestCase):
         return f"POST /solid HTTP/1.1\r\nHost: 127.0.0.1:{self.port}\r\n".encode()
 
     def assert_served(self) -> None:
-        """Whoever asks now is answered."""
+        """A request now is answered."""
         client = self.connect()
         client.sendall(self.head() + b"Connection: close\r\n" + BODY)
         said = b""

@@ -45,7 +45,9 @@ class Solids(live_case.Case):
         self.assertEqual(answer.headers["content-disposition"], "attachment; filename*=UTF-8''source.4off")
 
     def test_each_format_is_written_as_the_tools_write_it(self) -> None:
-        for form, begins in (("stl", b"solid part\n"), ("binstl", b"binary STL of part"), ("off", b"OFF\n8 12 0\n"), ("obj", b"o part\n")):
+        for form, begins in (
+            ("stl", b"solid part\n"), ("binstl", b"binary STL of part"), ("off", b"OFF\n8 12 0\n"), ("obj", b"o part\n")
+        ):
             answer = self.live.solid("w = 2;", format=form, file="part.scad")
             self.assertEqual((answer.status, answer.body[: len(begins)]), (200, begins), form)
         self.assertTrue(self.live.solid("w = 2;", format="svg").body.startswith(b"<svg "))
@@ -64,12 +66,16 @@ class Solids(live_case.Case):
         self.assertEqual(self.live.solid("w = 1;", {"Accept": "image/png"}).status, 406)
 
     def test_the_unit_is_that_of_the_call_or_of_the_source(self) -> None:
-        for unit, text, corner in (("1/10", "w = 5;", b"0.5 0.5 0.5"), (None, "// unit: 1/4\nw = 2;", b"0.5 0.5 0.5"), (None, "w=2;", b"2 2 2")):
+        for unit, text, corner in (
+            ("1/10", "w = 5;", b"0.5 0.5 0.5"), (None, "// unit: 1/4\nw = 2;", b"0.5 0.5 0.5"), (None, "w=2;", b"2 2 2")
+        ):
             words = urlencode({"format": "off", **({"unit": unit} if unit else {})})
             self.assertIn(corner, self.live.ask("POST", f"/solid?{words}", text.encode()).body.splitlines())
         self.assertEqual(self.live.solid("// unit: 1/4\nw = 2;", format="json").json()["unit"], "1/4")
         bad = self.live.solid("// unit: no\nw = 2;", format="json").json()
-        self.assertEqual((bad["unit"], bad["notes"][0]["line"], bad["notes"][0]["message"].partition(":")[0]), (None, 1, "BadUnit"))
+        self.assertEqual(
+            (bad["unit"], bad["notes"][0]["line"], bad["notes"][0]["message"].partition(":")[0]), (None, 1, "BadUnit")
+        )
 
     def test_definitions_count_behind_the_source(self) -> None:
         self.assertEqual(self.live.solid("w = 3;", D=("a=[1, 2]", "w=7")).body, BOX.format(7).encode())
@@ -77,6 +83,16 @@ class Solids(live_case.Case):
         self.assertEqual([it["message"] for it in noted], ["the source never has other, which is assigned behind it"])
         [fault] = self.faults(self.live.solid("w = 3;", D=("w=7.5",)))
         self.assertEqual((fault["word"], fault["file"], fault["column"]), ("NotWhole", "-D w=7.5", 3))
+
+    def test_what_openscad_takes_for_another_solid_is_noted_at_its_place(self) -> None:
+        # (the sign before it is two units of a browser, and four bytes)
+        text = "w = 1; /* \U0001f600 */ intersection() { cube(2); if (false) cube(1); }"
+        [note] = self.live.solid(text, file="part.scad", format="json").json()["notes"]
+        self.assertEqual(note, {
+            "message": "OpenSCAD takes this for another solid: here an `if` that chooses no body is an empty child; in "
+            "OpenSCAD it is not a child [if-child]", "file": "part.scad", "line": 1, "column": 45, "start": 42, "end": 44,
+        })  # fmt: skip
+        self.assertEqual(self.live.solid(text + " x = 2.5;", format="json").json()["notes"], [])
 
     def test_a_fault_has_its_place_its_cause_and_its_cure(self) -> None:
         # (the byte counts from 1, and what a browser marks from 0, in which the sign before it is two)
@@ -97,7 +113,9 @@ class Solids(live_case.Case):
         self.assertEqual((fault["word"], fault["line"], fault["column"]), ("TooLong", 1, 1017))
 
     def test_where_the_server_fails_nothing_is_said_of_the_source(self) -> None:
-        for text, word in (("//= wait", "OutOfTime"), ("//= status 9", "NoAnswer"), ("//= cut off", "NoAnswer"), ("//= nomem", "nomem")):
+        for text, word in (
+            ("//= wait", "OutOfTime"), ("//= status 9", "NoAnswer"), ("//= cut off", "NoAnswer"), ("//= nomem", "nomem")
+        ):
             [fault] = self.faults(self.live.solid(text), 503)
             self.assertEqual((fault["word"], fault["line"]), (word, None))
             self.assertTrue(fault["cure"])
@@ -107,7 +125,9 @@ class Solids(live_case.Case):
         self.assertEqual(self.live.solid("include <size.scad>", file="lib/part.scad").body, BOX.format(4).encode())
         secret = str(self.around / "secret.scad")
         for word in ("include", "use"):
-            for named in ("../secret.scad", secret, "link.scad", "away/secret.scad", "/etc/passwd", "lib/../../secret.scad", "/dev/stdin"):
+            for named in (
+                "../secret.scad", secret, "link.scad", "away/secret.scad", "/etc/passwd", "lib/../../secret.scad", "/dev/stdin"
+            ):
                 answer = self.live.solid(f"w = 1;\n{word} <{named}>\n")
                 [fault] = self.faults(answer)
                 self.assertEqual((fault["word"], fault["line"], fault["column"]), ("NoFile", 2, 1), named)
@@ -117,7 +137,15 @@ class Solids(live_case.Case):
         text = "/* [Size] */\n// how wide\nw = 3; // [1:9]\n"
         for source in (text, text + "cube(2.5);"):
             [found] = self.live.solid(source, format="json").json()["parameters"]
-            wanted = {"name": "w", "kind": "number", "value": "3", "start": 29, "end": 30, "section": "Size", "description": "how wide"}
+            wanted = {
+                "name": "w",
+                "kind": "number",
+                "value": "3",
+                "start": 29,
+                "end": 30,
+                "section": "Size",
+                "description": "how wide",
+            }
             wanted.update({"low": "1", "high": "9", "step": None, "choices": []})
             self.assertEqual(found, wanted)
 
@@ -140,10 +168,20 @@ class OpenScad(unittest.TestCase):
         def tried(text: str) -> None:
             openscad.test_reads(text.encode(), os.path.join(self.root, "part.scad"), [self.root], [self.root])
 
-        for text in ("sphere(2);", "include <in.scad>", "use <MCAD/boxes.scad>", "// import it by hand, file by file", "imported = 1;"):
+        for text in (
+            "sphere(2);", "include <in.scad>", "use <MCAD/boxes.scad>", "// import it by hand, file by file", "imported = 1;"
+        ):
             tried(text)
-        refused: Tuple[str, ...] = ("include </etc/passwd>", "use <../x.scad>", "include\n <../x>", 'x = "\\\n" include </etc/passwd>; "', "use <a/../../b>")
-        refused += ('import("/etc/passwd");', 'import /* */ ("a.stl");', "surface(file = x);", 'linear_extrude(file = "a.dxf");')
+        refused: Tuple[str, ...] = (
+            "include </etc/passwd>",
+            "use <../x.scad>",
+            "include\n <../x>",
+            'x = "\\\n" include </etc/passwd>; "',
+            "use <a/../../b>",
+        )
+        refused += (
+            'import("/etc/passwd");', 'import /* */ ("a.stl");', "surface(file = x);", 'linear_extrude(file = "a.dxf");'
+        )
         refused += ('dxf_dim(file="a");', 'import_stl("a");', "include <on.scad>", "use <pic.scad>", "include </etc/passwd")
         for text in refused:
             with self.assertRaises(Refused, msg=text):
@@ -169,13 +207,32 @@ class Files(live_case.Case):
     def test_sources_are_listed_with_their_marks(self) -> None:
         files = self.live.ask("GET", "/files").json()["files"]
         self.assertLessEqual({"a.scad", "deep/b.scad"}, set(files))
-        self.assertFalse({".c.scad", ".hidden/d.scad", "e.stl", "link.scad", "pipe.scad", "away/secret.scad", "large.scad"} & set(files))
+        self.assertFalse(
+            {".c.scad", ".hidden/d.scad", "e.stl", "link.scad", "pipe.scad", "away/secret.scad", "large.scad"} & set(files)
+        )
         self.assertEqual(f'"{files["deep/b.scad"]}"', self.mark("deep/b.scad"))
 
     def test_no_name_leads_out_of_the_folder_nor_by_a_link(self) -> None:
-        names = ["../secret.scad", "%2e%2e/secret.scad", "deep/%2e%2e/%2e%2e/secret.scad", "link.scad", "away/secret.scad", "pipe.scad"]
-        names += [".c.scad", ".hidden/d.scad", "e.stl", "deep", "deep/", "/a.scad", "%00.scad", "a.scad%00", "large.scad", "no.scad"]
-        names += ["..%2fsecret.scad", "%2fetc%2fpasswd", f"{'x' * 300}.scad", f"{'x/' * 3000}a.scad", "a.scad/b.scad", "deep//b.scad", "./a.scad"]
+        names = [
+            "../secret.scad",
+            "%2e%2e/secret.scad",
+            "deep/%2e%2e/%2e%2e/secret.scad",
+            "link.scad",
+            "away/secret.scad",
+            "pipe.scad",
+        ]
+        names += [
+            ".c.scad", ".hidden/d.scad", "e.stl", "deep", "deep/", "/a.scad", "%00.scad", "a.scad%00", "large.scad", "no.scad"
+        ]
+        names += [
+            "..%2fsecret.scad",
+            "%2fetc%2fpasswd",
+            f"{'x' * 300}.scad",
+            f"{'x/' * 3000}a.scad",
+            "a.scad/b.scad",
+            "deep//b.scad",
+            "./a.scad",
+        ]
         for name in names:
             tried: List[Tuple[str, Dict[str, str]]] = [("GET", {}), ("PUT", {"If-Match": "*"}), ("PUT", {"If-None-Match": "*"})]
             for method, headers in tried:
@@ -207,7 +264,7 @@ class Files(live_case.Case):
         self.assertEqual((self.folder / "deep/b.scad").read_text(), "w = 1;\n")
         self.assertEqual(sorted(it.name for it in (self.folder / "deep").iterdir()), ["b.scad"])
 
-    def test_a_change_on_disk_is_told_to_whoever_listens(self) -> None:
+    def test_a_change_on_disk_is_told_to_each_listener(self) -> None:
         for told in events(self.live):
             if "seen.scad" not in told["files"]:
                 (self.folder / "seen.scad").write_text("w = 1;")
@@ -219,7 +276,7 @@ class Files(live_case.Case):
         self.assertEqual(f'"{told["files"]["seen.scad"]}"', self.mark("seen.scad"))
 
 
-def events(live: Live) -> "Iterator[Any]":
+def events(live: Live) -> Iterator[Any]:
     """What a stream of events tells, each as it comes."""
     import http.client
 

@@ -29,7 +29,7 @@ CLIENTS = 32
 SECONDS = float(os.environ.get("SCADLIVE_SECONDS", "6"))
 # Seconds between two keys of a client.
 KEY = 0.12
-# A server that has answered may keep so many more kilobytes than one that has not.
+# A server that has answered may keep this many more kilobytes than one that has not.
 KEPT = 48 * 1024
 
 
@@ -50,18 +50,18 @@ def name_of(text: str) -> str:
 
 
 def plain(told: str) -> bytes:
-    """What is told of a fault, without the calls that led there: on a busy machine scad2off doesn't ask for these."""
+    """What is said about a fault, without the calls that led there: on a busy machine scad2off doesn't ask for these."""
     return "".join(it for it in told.splitlines(keepends=True) if ": note: called here" not in it).encode()
 
 
 class Client(threading.Thread):
     """A client that types for some seconds, and waits for no answer before the next key."""
 
-    def __init__(self, case: "Load", number: int, until: float) -> None:
+    def __init__(self, case: Load, number: int, until: float) -> None:
         super().__init__()
         self.case, self.number, self.until = case, number, until
-        self.answers: "list[tuple[str, Answer, float]]" = []
-        self.asked: "list[threading.Thread]" = []
+        self.answers: list[tuple[str, Answer, float]] = []
+        self.asked: list[threading.Thread] = []
 
     def run(self) -> None:
         key = 0
@@ -101,7 +101,7 @@ class Load(live_case.Case):
         with open(f"/proc/{self.live.process.pid}/status", encoding="ascii") as it:
             return int(re.findall(r"^VmRSS:\s+(\d+) kB$", it.read(), re.MULTILINE)[0])
 
-    def told(self, texts: "dict[str, str]") -> "dict[str, bytes]":
+    def told(self, texts: dict[str, str]) -> dict[str, bytes]:
         """What scad2off says of each text, by the name of its file: its 4OFF text, or its fault on standard error."""
         with tempfile.TemporaryDirectory() as folder:
             for name, text in texts.items():
@@ -123,9 +123,9 @@ class Load(live_case.Case):
             it.start()
         for it in clients:
             it.join()
-        counts: "Counter[int]" = Counter()
-        texts: "dict[str, str]" = {}
-        answered: "dict[str, set[bytes]]" = {}
+        counts: Counter[int] = Counter()
+        texts: dict[str, str] = {}
+        answered: dict[str, set[bytes]] = {}
         for it in clients:
             counts.update(answer.status for _, answer, _ in it.answers)
             for text, answer, _ in it.answers:
@@ -147,7 +147,9 @@ class Load(live_case.Case):
         if "SCADLIVE_SECONDS" in os.environ:
             times = sorted(seconds for it in clients for _, answer, seconds in it.answers if answer.status != 409)
             shown = {"middle": times[len(times) // 2], "of 100 slowest": times[int(0.99 * len(times))]}
-            print(json.dumps({"statuses": counts, "texts": len(told), "seconds": shown, "kB": [before, after]}), file=sys.stderr)
+            print(
+                json.dumps({"statuses": counts, "texts": len(told), "seconds": shown, "kB": [before, after]}), file=sys.stderr
+            )
 
 
 if __name__ == "__main__":

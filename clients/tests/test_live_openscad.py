@@ -34,7 +34,9 @@ class ByOpenScad(live_case.Case):
         self.assertIn(b"1 2 3", mesh.body.splitlines())
 
     def test_what_openscad_may_not_read_is_refused_before_it_runs(self) -> None:
-        for text, word in (("include <../secret.scad>", "NoFile"), ('import("/etc/passwd");', "NotInProfile"), ("use </etc/passwd>", "NoFile")):
+        for text, word in (
+            ("include <../secret.scad>", "NoFile"), ('import("/etc/passwd");', "NotInProfile"), ("use </etc/passwd>", "NoFile")
+        ):
             answer = self.live.solid(f"cube(1);\n{text}\n", openscad="1")
             self.assertEqual(answer.status, 422)
             self.assertEqual([(it["word"], it["line"]) for it in answer.json()["faults"]], [(word, 2)])

@@ -45,7 +45,7 @@ after = 4;
 """
 
 
-def found(text: bytes) -> "dict[str, Parameter]":
+def found(text: bytes) -> dict[str, Parameter]:
     return {it.name: it for it in parameters(text)}
 
 
@@ -53,15 +53,16 @@ class Customizer(unittest.TestCase):
     def test_the_example_of_the_manual(self) -> None:
         got = found(MANUAL)
         kinds = {name: it.kind for name, it in got.items()}
-        self.assertEqual(kinds, {
-            "Numbers": "number", "Strings": "text", "Labeled_values": "number", "Labeled_value": "text", "sliderWithMax": "number",
-            "sliderWithRange": "number", "stepSlider": "number", "Variable": "truth", "Spinbox": "number", "String": "text",
-            "Vector4": "list", "fragments": "number",
-        })  # fmt: skip
+        numbers = ("Numbers", "Labeled_values", "sliderWithMax", "sliderWithRange", "stepSlider", "Spinbox", "fragments")
+        texts = ("Strings", "Labeled_value", "String")
+        wanted = {**dict.fromkeys(numbers, "number"), **dict.fromkeys(texts, "text"), "Variable": "truth", "Vector4": "list"}
+        self.assertEqual(kinds, wanted)
         self.assertEqual(got["Numbers"].choices, [Choice(it, it) for it in "0123"])
         self.assertEqual(got["Strings"].choices, [Choice(f'"{it}"', it) for it in ("foo", "bar", "baz")])
         self.assertEqual(got["Labeled_values"].choices, [Choice("10", "L"), Choice("20", "M"), Choice("30", "XL")])
-        self.assertEqual(got["Labeled_value"].choices, [Choice('"S"', "Small"), Choice('"M"', "Medium"), Choice('"L"', "Large")])
+        self.assertEqual(
+            got["Labeled_value"].choices, [Choice('"S"', "Small"), Choice('"M"', "Medium"), Choice('"L"', "Large")]
+        )
         ranges = {name: (it.low, it.step, it.high) for name, it in got.items()}
         self.assertEqual(ranges["sliderWithMax"], ("0", None, "50"))
         self.assertEqual(ranges["sliderWithRange"], ("10", None, "100"))
@@ -69,7 +70,9 @@ class Customizer(unittest.TestCase):
         self.assertEqual(ranges["Spinbox"], (None, "23", None))
         self.assertEqual(ranges["String"], (None, None, "8"))
         self.assertEqual(ranges["Vector4"], ("0", "2", "100"))
-        self.assertEqual((got["Numbers"].section, got["Spinbox"].section, got["fragments"].section), ("Drop down box:", "Spinbox", "Global"))
+        self.assertEqual(
+            (got["Numbers"].section, got["Spinbox"].section, got["fragments"].section), ("Drop down box:", "Spinbox", "Global")
+        )
         self.assertEqual((got["Variable"].description, got["Vector4"].description), ("description", ""))
         self.assertEqual((got["fragments"].value, got["Vector4"].value), ("-4", "[12,34,44,23]"))
 

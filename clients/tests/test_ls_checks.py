@@ -1,4 +1,6 @@
-"""What is told of texts while one types: faults at their places, old ones ended, costly ones that cost no other text anything."""
+"""What is said about texts while one types: faults at their places, old ones ended, costly ones that cost no other text
+anything.
+"""
 
 import os
 import queue
@@ -33,7 +35,7 @@ class Checks(Case):
         self.assertEqual(fault["range"], {"start": {"line": 1, "character": 14}, "end": {"line": 1, "character": 17}})
         self.assertEqual((fault["code"], fault["source"], fault["severity"]), ("NotWhole", "scadserve", 1))
         said, cure = fault["message"].split("\n")
-        self.assertEqual(said, "2.5 is no whole number")
+        self.assertEqual(said, "2.5 is not a whole number")
         self.assertTrue(cure.startswith("cure: write lengths in tenths"), cure)
 
     def test_faults_come_and_go_as_one_types(self):
@@ -62,7 +64,9 @@ class Checks(Case):
     def test_a_fault_at_the_end(self):
         editor, uri = self.text("//= open\n")
         [fault] = editor.diagnostics(uri)
-        self.assertEqual((fault["code"], fault["message"].split("\n")[0]), ("Expected", "the source ends in the middle of a statement"))
+        self.assertEqual(
+            (fault["code"], fault["message"].split("\n")[0]), ("Expected", "the source ends in the middle of a statement")
+        )
         self.assertEqual(fault["range"], {"start": {"line": 1, "character": 0}, "end": {"line": 1, "character": 0}})
 
     def test_what_tells_of_the_whole(self):
@@ -86,7 +90,7 @@ class Checks(Case):
         editor, uri = self.text("// first\ninclude <lib.scad>\ncube(w);\n")
         [fault] = editor.diagnostics(uri)
         self.assertEqual(fault["range"]["start"], {"line": 1, "character": 0})
-        self.assertIn("lib.scad:2:5: 2.5 is no whole number", fault["message"])
+        self.assertIn("lib.scad:2:5: 2.5 is not a whole number", fault["message"])
         there = fault["relatedInformation"][0]["location"]
         self.assertEqual((there["uri"], there["range"]["start"]), (self.uri("lib.scad"), {"line": 1, "character": 4}))
         # (the text that is open there counts, and its change is one of what includes it)
@@ -128,7 +132,13 @@ class Checks(Case):
 
     def test_notes_are_information(self):
         def notes(source):
-            yield Message("part.scad:1:6", "Other", "it is another solid there", "write it otherwise", Spot(source.name, 1, 6, b"cube(2);"))
+            yield Message(
+                "part.scad:1:6",
+                "Other",
+                "it is another solid there",
+                "write it otherwise",
+                Spot(source.name, 1, 6, b"cube(2);"),
+            )
 
         editor = self.editor(notes=notes)
         editor.start()
@@ -151,7 +161,9 @@ class Checks(Case):
         editor.start()
         uri = self.opened(editor, "part.scad", "cube(2);\n")
         said = editor.wait(lambda it: it.get("method") == "window/showMessage")["params"]
-        self.assertEqual((said["type"], said["message"]), (1, "scadls: /no/such/server does not start: No such file or directory"))
+        self.assertEqual(
+            (said["type"], said["message"]), (1, "scadls: /no/such/server does not start: No such file or directory")
+        )
         self.assertEqual(editor.diagnostics(uri), [])
         # (it is said once, and all else goes on)
         self.change(editor, uri, 2, {"text": "cube(3);\n"})
@@ -199,7 +211,10 @@ class Costly(Case):
         editor.start()
         [told] = editor.diagnostics(self.opened(editor, "part.scad", "// slow\n"))
         self.assertEqual((told["code"], told["severity"]), ("OutOfTime", 2))
-        self.assertEqual(told["message"], "it takes longer than 0.5 s, and was ended\ncure: make it simpler, or start scadls with more --seconds")
+        self.assertEqual(
+            told["message"],
+            "it takes longer than 0.5 s, and was ended\ncure: make it simpler, or start scadls with more --seconds",
+        )
         self.wait_for(lambda: self.runs_of("ended") == self.runs_of("began"))
 
     def test_the_end_of_the_conversation_ends_what_runs(self):

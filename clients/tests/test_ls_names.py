@@ -1,4 +1,4 @@
-"""What an editor is told of names: hover, completion, definitions, outlines. What each name means was worked out by hand."""
+"""What an editor is told about names: hover, completion, definitions, outlines. What each name means was worked out by hand."""
 
 import os
 import unittest
@@ -116,7 +116,9 @@ class Completion(Case):
                 self.assertEqual(self.parameters, parameters)
 
     def test_where_nothing_is_written(self):
-        for text in ("// a comment @", "/* a @ */", "/* a @", 'x = "te@xt";', 'x = "te@', "module @", "x = 3@;", "function f@(x) = 1;"):
+        for text in (
+            "// a comment @", "/* a @ */", "/* a @", 'x = "te@xt";', 'x = "te@', "module @", "x = 3@;", "function f@(x) = 1;"
+        ):
             self.assertEqual(self.words(text), {}, text)
         for text in ("/* a */@", 'x = "text" @', "// a comment\n@", "x = 3 @"):
             self.assertNotEqual(self.words(text), {}, text)
@@ -146,7 +148,10 @@ class Completion(Case):
 
 class Definition(Case):
     def places(self, editor, uri, text, pattern):
-        return [(os.path.basename(it["uri"]), it["range"]["start"]) for it in editor.ask("textDocument/definition", about(uri, text, pattern))]
+        return [
+            (os.path.basename(it["uri"]), it["range"]["start"])
+            for it in editor.ask("textDocument/definition", about(uri, text, pattern))
+        ]
 
     def assert_defined(self, text, pattern, where):
         """The name at a place of a text is defined at that other one alone."""
@@ -186,7 +191,9 @@ class Definition(Case):
     def test_all_assignments_of_a_scope(self):
         text = "x = 1; x = 2; cube(x);"
         editor, uri = self.text(text)
-        self.assertEqual([it[1] for it in self.places(editor, uri, text, r"cube\((x)")], [place(text, "^(x)"), place(text, "; (x)")])
+        self.assertEqual(
+            [it[1] for it in self.places(editor, uri, text, r"cube\((x)")], [place(text, "^(x)"), place(text, "; (x)")]
+        )
 
     def test_a_function_that_may_be_called_before_a_variable_is_bound(self):
         text = "x = 1; module m() { y = f(); x = 2; function f() = x; cube(y); }"
@@ -270,7 +277,9 @@ class Outline(Case):
     def test_in_a_list(self):
         editor, uri = self.text("module m() { a = 1; }")
         found = editor.ask("textDocument/documentSymbol", {"textDocument": {"uri": uri}})
-        self.assertEqual([(it["name"], it.get("containerName"), it["location"]["uri"]) for it in found], [("m", None, uri), ("a", "m", uri)])
+        self.assertEqual(
+            [(it["name"], it.get("containerName"), it["location"]["uri"]) for it in found], [("m", None, uri), ("a", "m", uri)]
+        )
 
     def test_the_names_of_the_file_alone(self):
         self.write("lib.scad", "k = 1; module of_lib() cube(1);")

@@ -88,7 +88,9 @@ class Conversation(Case):
     def test_bad_parameters_end_nothing(self):
         editor, uri = self.text("x = 1;\n")
         for method in ("hover", "completion", "definition", "references", "documentSymbol", "prepareRename", "rename"):
-            for params in (None, [], {}, {"textDocument": 1}, {"textDocument": {"uri": 1}}, {"textDocument": {"uri": "file:///no"}}):
+            for params in (
+                None, [], {}, {"textDocument": 1}, {"textDocument": {"uri": 1}}, {"textDocument": {"uri": "file:///no"}}
+            ):
                 with self.subTest(method, params=params):
                     self.assertEqual(editor.ask(f"textDocument/{method}", params)["code"], framing.INVALID_PARAMS)
         for position in (None, {"line": -1, "character": 0}, {"line": "1"}, {"line": 0, "character": 1e9}):

@@ -30,20 +30,33 @@ class Renames(Case):
 
 class OneFile(Renames):
     def test_variables_in_their_scopes(self):
+        same = "x = 1; function x(x) = x; module x() cube(x(x)); x();"
         for text, pattern, wanted in (
             ("x = 1; module m() { x = 2; cube(x); } cube(x);", "^(x)", "n = 1; module m() { x = 2; cube(x); } cube(n);"),
-            ("x = 1; module m() { x = 2; cube(x); } cube(x);", r"m.*\((x)\); \}", "x = 1; module m() { n = 2; cube(n); } cube(x);"),
+            (
+                "x = 1; module m() { x = 2; cube(x); } cube(x);",
+                r"m.*\((x)\); \}",
+                "x = 1; module m() { n = 2; cube(n); } cube(x);",
+            ),
             ("x = 1; module m() { x = x + 1; cube(x); }", "^(x)", "n = 1; module m() { x = n + 1; cube(x); }"),
             ("x = 1; module m() { x = x + 1; cube(x); }", r"\{ (x)", "x = 1; module m() { n = x + 1; cube(n); }"),
             ("x = 1; x = 2; cube(x);", r"cube\((x)", "n = 1; n = 2; cube(n);"),
             ("x = 1; { x = 2; } cube(x);", r"cube\((x)", "n = 1; { n = 2; } cube(n);"),
             ("for (x = [0 : x]) cube(x); x = 3;", r"\((x) =", "for (n = [0 : x]) cube(n); x = 3;"),
             ("for (x = [0 : x]) cube(x); x = 3;", r"(x) = 3", "for (x = [0 : n]) cube(x); n = 3;"),
-            ("x = 1; function x(x) = x; module x() cube(x(x)); x();", "^(x)", "n = 1; function x(x) = x; module x() cube(x(n)); x();"),
-            ("x = 1; function x(x) = x; module x() cube(x(x)); x();", "function (x)", "x = 1; function n(x) = x; module x() cube(n(x)); x();"),
-            ("x = 1; function x(x) = x; module x() cube(x(x)); x();", "module (x)", "x = 1; function x(x) = x; module n() cube(x(x)); n();"),
-            ("a = [for (x = [0 : 2]) let (y = x) y + x, x]; x = 1;", r"\((x)", "a = [for (n = [0 : 2]) let (y = n) y + n, x]; x = 1;"),
-            ("m(x) { x = 1; cube(x); } x = 2; module m(a) children();", r"m\((x)", "m(n) { x = 1; cube(x); } n = 2; module m(a) children();"),
+            (same, "^(x)", "n = 1; function x(x) = x; module x() cube(x(n)); x();"),
+            (same, "function (x)", "x = 1; function n(x) = x; module x() cube(n(x)); x();"),
+            (same, "module (x)", "x = 1; function x(x) = x; module n() cube(x(x)); n();"),
+            (
+                "a = [for (x = [0 : 2]) let (y = x) y + x, x]; x = 1;",
+                r"\((x)",
+                "a = [for (n = [0 : 2]) let (y = n) y + n, x]; x = 1;",
+            ),
+            (
+                "m(x) { x = 1; cube(x); } x = 2; module m(a) children();",
+                r"m\((x)",
+                "m(n) { x = 1; cube(x); } n = 2; module m(a) children();",
+            ),
             ("// x\nx = \"x\"; /* x */ echo(x); // x\n", "^// x\n(x)", "// x\nn = \"x\"; /* x */ echo(n); // x\n"),
             ("v = p.x; x = 1;", "; (x)", "v = p.x; n = 1;"),
             # (it has no value there: it is assigned later)
@@ -59,7 +72,12 @@ class OneFile(Renames):
             self.assert_renamed(text, pattern, "n", wanted)
 
     def test_longer_and_shorter_names_on_one_line(self):
-        self.assert_renamed("x=1;y=x+x*x;cube(x);", "^(x)", "a_long_name", "a_long_name=1;y=a_long_name+a_long_name*a_long_name;cube(a_long_name);")
+        self.assert_renamed(
+            "x=1;y=x+x*x;cube(x);",
+            "^(x)",
+            "a_long_name",
+            "a_long_name=1;y=a_long_name+a_long_name*a_long_name;cube(a_long_name);",
+        )
         self.assert_renamed("long=1;y=long+long;", "^(long)", "n", "n=1;y=n+n;")
 
     def test_a_name_that_may_mean_either_of_two(self):
@@ -87,7 +105,14 @@ class OneFile(Renames):
                 self.assertIn(said, found["message"])
 
     def test_names_that_none_can_have(self):
-        for new, said in (("3d", "is no name"), ("", "is no name"), ("a b", "is no name"), ("$x", "is no name"), ("\u00e9", "is no name"), ("for", "is a word")):
+        for new, said in (
+            ("3d", "is not a name"),
+            ("", "is not a name"),
+            ("a b", "is not a name"),
+            ("$x", "is not a name"),
+            ("\u00e9", "is not a name"),
+            ("for", "is a word"),
+        ):
             self.assert_refused("x = 1; cube(x);", "^(x)", new, said)
         for new in ("cube", "sphere", "abs"):
             self.assert_refused("function m() = 1; x = m();", r"(m)\(\) = 1", new, f"{new} is built in")
@@ -108,21 +133,30 @@ class OneFile(Renames):
                 self.assert_refused(text, pattern, "n", "n has a meaning of its own where x stands")
 
     def test_the_same_name_where_it_meets_no_other(self):
-        self.assert_renamed("module m() { x = 1; cube(x); } module k() { n = 2; cube(n); }", "(x) = 1", "n", "module m() { n = 1; cube(n); } module k() { n = 2; cube(n); }")
-        self.assert_renamed("x = 1; module n() cube(x); function n() = 2;", "^(x)", "n", "n = 1; module n() cube(n); function n() = 2;")
+        self.assert_renamed(
+            "module m() { x = 1; cube(x); } module k() { n = 2; cube(n); }",
+            "(x) = 1",
+            "n",
+            "module m() { n = 1; cube(n); } module k() { n = 2; cube(n); }",
+        )
+        self.assert_renamed(
+            "x = 1; module n() cube(x); function n() = 2;", "^(x)", "n", "n = 1; module n() cube(n); function n() = 2;"
+        )
 
     def test_the_name_that_it_has(self):
         _, found = self.ask("x = 1; cube(x);", "^(x)", "x")
         self.assertEqual(found, {"changes": {}})
 
     def test_a_text_that_is_no_program(self):
-        self.assert_refused("x = 1;\ncube(x;\n", "^(x)", "n", "part.scad:2:7 is no program yet")
+        self.assert_refused("x = 1;\ncube(x;\n", "^(x)", "n", "part.scad:2:7 is not a program yet")
 
     def test_what_is_asked_before(self):
         text = "w = 1; cube(w);"
         editor, uri = self.text(text)
         found = editor.ask("textDocument/prepareRename", about(uri, text, r"cube\((w)"))
-        self.assertEqual(found, {"range": {"start": {"line": 0, "character": 12}, "end": {"line": 0, "character": 13}}, "placeholder": "w"})
+        self.assertEqual(
+            found, {"range": {"start": {"line": 0, "character": 12}, "end": {"line": 0, "character": 13}}, "placeholder": "w"}
+        )
 
     def test_edits_of_a_version(self):
         text = "w = 1; cube(w);"
@@ -210,7 +244,7 @@ class ManyFiles(Renames):
 
     def test_another_file_that_is_no_program(self):
         self.files(lib=self.LIB, one="use <lib.scad>\nof_lib(;\n", two="cube(;\n")
-        self.assertIn("one.scad:2:8 is no program yet", self.renamed("lib.scad", "(of_lib)", "box")["message"])
+        self.assertIn("one.scad:2:8 is not a program yet", self.renamed("lib.scad", "(of_lib)", "box")["message"])
 
     def test_more_files_than_are_looked_at(self):
         self.files(lib=self.LIB, one="x = 1;", two="x = 2;")
@@ -234,7 +268,10 @@ class ManyFiles(Renames):
         editor.start()
         uri = self.opened(editor, "lib.scad", self.LIB)
         found = editor.ask("textDocument/references", about(uri, self.LIB, "^(k)"))
-        self.assertEqual([(os.path.basename(it["uri"]), it["range"]["start"]["line"]) for it in found], [("lib.scad", 0), ("lib.scad", 1), ("lib.scad", 2)])
+        self.assertEqual(
+            [(os.path.basename(it["uri"]), it["range"]["start"]["line"]) for it in found],
+            [("lib.scad", 0), ("lib.scad", 1), ("lib.scad", 2)],
+        )
         self.assertEqual(editor.ask("textDocument/references", about(uri, self.LIB, "(cube)")), [])
 
     def test_names_with_odd_letters_in_paths(self):

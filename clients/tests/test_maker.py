@@ -20,7 +20,12 @@ _SPEC.loader.exec_module(maker)
 
 needs_openscad = needs("openscad")
 # A tetrahedron with three legs of 1.5 along the axes, whose volume is 1.5^3 / 6.
-FACES = (("0 0 0", "0 1.5 0", "1.5 0 0"), ("0 0 0", "1.5 0 0", "0 0 1.5"), ("0 0 0", "0 0 1.5", "0 1.5 0"), ("1.5 0 0", "0 1.5 0", "0 0 1.5"))
+FACES = (
+    ("0 0 0", "0 1.5 0", "1.5 0 0"),
+    ("0 0 0", "1.5 0 0", "0 0 1.5"),
+    ("0 0 0", "0 0 1.5", "0 1.5 0"),
+    ("1.5 0 0", "0 1.5 0", "0 0 1.5"),
+)
 
 
 class Numbers(unittest.TestCase):

@@ -116,7 +116,7 @@ class Counts(Case):
     def test_twenty_thousand_faces_take_seconds(self):
         squares = [[(x, y, 1), (x + 1, y, 1), (x + 1, y + 1, 1), (x, y + 1, 1)] for x in range(100) for y in range(100)]
         for text, count in (
-            # The outline of a comb has 4 * 1667 + 2 corners: so many sides of 2, and two ends.
+            # The outline of a comb has 4 * 1667 + 2 corners: this many sides of 2, and two ends.
             (off(comb(1667) + comb(1667, 10)), 2 * (2 * 6670 + 2 * 6668)),
             (off(box((0, 0, 0), (100, 100, 1))[:5] + squares), 12),
         ):

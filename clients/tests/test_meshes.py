@@ -26,7 +26,7 @@ def edges(triangle):
 
 
 def hanging_together(count, pairs):
-    """How many pieces there are of so many triangles."""
+    """How many pieces there are of this many triangles."""
     above = list(range(count))
 
     def root(at):

@@ -61,7 +61,7 @@ def meaning_answer(half: bool, source: bytes) -> str:
 
 
 def value_of(turns: int, source: bytes) -> bytes:
-    """The value of the assignment with which a source begins, behind so many turns, where the name `later` is 7. Its faults
+    """The value of the assignment with which a source begins, behind this many turns, where the name `later` is 7. Its faults
     are told by their columns behind the `=`."""
     program = whole_program(lexes(source))
     env = entered_scope(program, None, None)
@@ -103,7 +103,7 @@ def language_fault(row: tuple[int, bytes, bytes]) -> str | None:
     return None if told == spelled(answer) else f"{number}: {case[:300]!r} is {told[:300]!r}"
 
 
-# What is told of faces: the number of lines of a 4OFF text and these lines, or the limit that they pass; and the tally.
+# What is said about faces: the number of lines of a 4OFF text and these lines, or the limit that they pass; and the tally.
 FACES = re.compile(rb"(?m)^(\d+) (?:solid \d+\n4OFF\n(?:-?\d[-\d ]*\n)*|complex [a-z0-9 ]+\n)")
 TALLY = re.compile(rb"(?m)^(?:tally|share) .*\n")
 

@@ -135,7 +135,9 @@ class Drawn(Case):
         # A tetrahedron with legs of 1, 2/3 and 2/3 is cut off: 1 - 2/27.
         self.assertEqual(self.facts(), {"Faces": "7", "Box": "1 x 1 x 1, (0, 0, 0) to (1, 1, 1)", "Volume": "25/27"})
         _, drawn = self.page(off(box((-1, 0, 2), (3, 5, 4))), "--unit", "1/10")
-        expected = {"Faces": "6", "Unit": "1/10 mm", "Box": "0.4 x 0.5 x 0.2, (-0.1, 0, 0.2) to (0.3, 0.5, 0.4)", "Volume": "0.04"}
+        expected = {
+            "Faces": "6", "Unit": "1/10 mm", "Box": "0.4 x 0.5 x 0.2, (-0.1, 0, 0.2) to (0.3, 0.5, 0.4)", "Volume": "0.04"
+        }
         self.assertEqual((self.facts(), drawn["unit"]), (expected, "1/10"))
 
 
@@ -153,7 +155,9 @@ class Form(Case):
 
     def test_it_asks_no_network(self):
         page, _ = self.page(CUT_CUBE)
-        self.assertIsNone(re.search(r"https?:|wss?:|url\(|@import|\bfetch\(|XMLHttp|WebSocket|sendBeacon|importScripts", self.text))
+        self.assertIsNone(
+            re.search(r"https?:|wss?:|url\(|@import|\bfetch\(|XMLHttp|WebSocket|sendBeacon|importScripts", self.text)
+        )
         self.assertEqual([it for _, it in page.elements if "src" in it], [])
         self.assertEqual(page.all("link"), [{"rel": "icon", "href": "data:,"}])
         [policy] = [it["content"] for it in page.all("meta") if it.get("http-equiv") == "Content-Security-Policy"]
@@ -200,8 +204,8 @@ class Tool(Case):
             (2, ["-o", self.path("none/a.html"), good], "off2html: cannot write none/a.html: No such file"),
             (2, ["-o", good, good], "off2html: a.4off would be a page, and has another ending"),
             (2, ["-o", self.path("a.SVG"), good], "off2html: a.SVG would be a page, and has another ending"),
-            (2, ["--view", "x", "1", good], "is no angle"),
-            (2, ["--unit", "0", good], "is no number above 0"),
+            (2, ["--view", "x", "1", good], "is not an angle"),
+            (2, ["--unit", "0", good], "is not a number above 0"),
             (2, ["--watch", good], "off2html: --watch reads a FILE again and again, and writes one"),
             (2, ["--watch", "-o", self.path("a.html")], "off2html: --watch reads a FILE again and again, and writes one"),
             (2, ["--wat", good], "off2html: "),
@@ -255,10 +259,14 @@ class Watching(Case):
         said = tool.communicate()[1].decode().replace(self.folder + os.sep, "").splitlines()
         self.assertEqual(tool.returncode, 130)
         self.assertRegex(said[0], r"\Aw\.4off:2: error: the second line .*; w\.html shows the solid from before\Z")
-        self.assertEqual(said[1:], ["off2html: cannot open w.4off: No such file or directory; w.html shows the solid from before"])
+        self.assertEqual(
+            said[1:], ["off2html: cannot open w.4off: No such file or directory; w.html shows the solid from before"]
+        )
 
     def test_it_begins_with_a_solid(self):
-        self.assert_fault(2, ["--watch", self.path("none"), "-o", self.path("w.html")], "off2html: cannot open none: No such file")
+        self.assert_fault(
+            2, ["--watch", self.path("none"), "-o", self.path("w.html")], "off2html: cannot open none: No such file"
+        )
 
 
 if __name__ == "__main__":

@@ -35,8 +35,8 @@ class Shown(Case):
         self.assert_painted(3, 6)
 
     def test_what_is_in_front_hides_what_is_behind(self):
-        # A wide box before a smaller one: from the front none of its corners is seen, and from behind four are. (A corner that lies
-        # just behind the rim of what is before it may be told, so none does.)
+        # A wide box before a smaller one: from the front none of its corners is seen, and from behind four are. (A corner that
+        # lies just behind the rim of what is before it may be told, so none does.)
         self.show(off(box((0, 0, 0), (4, 1, 3)) + box((1, 2, 1), (3, 3, 2))))
         for key, wide, narrow in (("1", 0, None), ("3", 1, 3)):
             self.press(key)
@@ -163,7 +163,10 @@ class Corners(Case):
         # From the front the corners with y = 3 are behind those with y = 0, and those of a box inside are hidden.
         self.show(off(box((0, 0, 0), (2, 3, 6))), "--view", "0", "0")
         self.painted()
-        self.assertEqual([self.hover(x, z) for x, z in ((-1, -3), (1, -3), (1, 3))], [f"corner ({it})" for it in ("0, 0, 0", "2, 0, 0", "2, 0, 6")])
+        self.assertEqual(
+            [self.hover(x, z) for x, z in ((-1, -3), (1, -3), (1, 3))],
+            [f"corner ({it})" for it in ("0, 0, 0", "2, 0, 0", "2, 0, 6")],
+        )
 
     def test_exact_fractions(self):
         long = Fraction(2 * 10**30 + 1, 10**30)
@@ -186,7 +189,9 @@ class Corners(Case):
             for x, z in ((-1, -3), (1, -3), (1, 3), (-1, 3)):
                 exact = f"-{long.numerator}/{long.denominator}" if x < 0 else "0"
                 self.assertRegex(self.hover(x, z), rf"\Acorner \({exact}, 0, {3 + z}\)")
-            self.assertEqual(self.browser.run("[view.clientWidth, view.clientHeight, document.documentElement.scrollHeight]"), size)
+            self.assertEqual(
+                self.browser.run("[view.clientWidth, view.clientHeight, document.documentElement.scrollHeight]"), size
+            )
             # All of it is seen, and the pointer goes through it.
             self.assertTrue(self.browser.run("corner.scrollHeight <= corner.clientHeight && corner.clientHeight > 0"))
             place = "corner.getBoundingClientRect()"

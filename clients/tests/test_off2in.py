@@ -1,4 +1,5 @@
-"""The tool off2in: which points are in a solid, out of it or on its faces, compared with values by hand and with slow checks."""
+"""The tool off2in: which points are in a solid, out of it or on its faces, compared with values by hand and with slow checks.
+"""
 
 import os
 import random
@@ -20,7 +21,7 @@ HALF, THIRD = Fraction(1, 2), Fraction(1, 3)
 
 
 def places(text, points):
-    """What is told of points of the solid of a text."""
+    """What is said about points of the solid of a text."""
     faces = Crossings(fouroff.read(text))
     return [faces.place(it) for it in points]
 
@@ -36,7 +37,9 @@ class ByHand(unittest.TestCase):
 
     def test_a_cube(self):
         cube = off(box((0, 0, 0), (2, 2, 2)))
-        self.assert_places(cube, IN, [(1, 1, 1), (THIRD, HALF, 1), (Fraction(1, 10**30), 1, 1), (1, 1, 2 - Fraction(1, 10**30))])
+        self.assert_places(
+            cube, IN, [(1, 1, 1), (THIRD, HALF, 1), (Fraction(1, 10**30), 1, 1), (1, 1, 2 - Fraction(1, 10**30))]
+        )
         self.assert_places(cube, ON, [(0, 0, 0), (2, 2, 2), (1, 0, 0), (1, 1, 0), (1, 1, 2), (0, THIRD, HALF), (2, 2, 1)])
         self.assert_places(cube, OUT, [(3, 1, 1), (1, 1, -1), (1, 1, 2 + Fraction(1, 10**30)), (-THIRD, HALF, 1), (9999, 0, 0)])
 
@@ -44,7 +47,9 @@ class ByHand(unittest.TestCase):
         # (the face there is on 2x + 3y + 3z = 6, and the corner (1, 1, 1) of the cube has 8)
         self.assert_places(CUT_CUBE, IN, [(HALF, HALF, HALF), (1 - Fraction(1, 100), HALF, HALF), (Fraction(7, 10),) * 3])
         self.assert_places(CUT_CUBE, ON, [(Fraction(3, 4),) * 3, (1, 1, THIRD), (1, THIRD, 1), (1, 1, 0), (HALF, HALF, 1)])
-        self.assert_places(CUT_CUBE, OUT, [(Fraction(4, 5),) * 3, (1, 1, 1), (1, 1, HALF), (Fraction(3, 4) + Fraction(1, 10**20),) * 3])
+        self.assert_places(
+            CUT_CUBE, OUT, [(Fraction(4, 5),) * 3, (1, 1, 1), (1, 1, HALF), (Fraction(3, 4) + Fraction(1, 10**20),) * 3]
+        )
 
     def test_points_level_with_faces_and_edges(self):
         # (of a comb: from beside the teeth straight up each way meets edges, and along a face it lies on planes)
@@ -62,7 +67,9 @@ class ByHand(unittest.TestCase):
 
     def test_parts_that_touch(self):
         edge = off(box((0, 0, 0), (1, 1, 1)) + box((1, 1, 0), (2, 2, 1)))
-        self.assertEqual(places(edge, [(HALF,) * 3, (1 + HALF, 1 + HALF, HALF), (1, 1, HALF), (HALF, 1 + HALF, HALF)]), [IN, IN, ON, OUT])
+        self.assertEqual(
+            places(edge, [(HALF,) * 3, (1 + HALF, 1 + HALF, HALF), (1, 1, HALF), (HALF, 1 + HALF, HALF)]), [IN, IN, ON, OUT]
+        )
         self.assertEqual(places(off(split_box()), [(1, HALF, HALF), (1, HALF, 1)]), [IN, ON])
 
     def test_a_solid_of_the_package(self):
@@ -114,7 +121,9 @@ class BySlowChecks(unittest.TestCase):
     def test_a_chess_board(self):
         for plate, lid in product((False, True), repeat=2):
             points = [(10 * x + 5, 10 * y + 5, z) for x, y, z in product(range(4), range(4), (-1, 2, 6))]
-            expected = [(z == 2 and (x // 10 + y // 10) % 2 == 0) or (plate and z == -1) or (lid and z == 6) for x, y, z in points]
+            expected = [
+                (z == 2 and (x // 10 + y // 10) % 2 == 0) or (plate and z == -1) or (lid and z == 6) for x, y, z in points
+            ]
             self.assertEqual(places(touching.board(plate, lid), points), [IN if it else OUT for it in expected])
 
     def test_both_sides_of_each_face(self):
@@ -152,7 +161,9 @@ class Tool(tool_case.Case):
 
     def told(self, *words):
         """The lines that a call prints."""
-        done = subprocess.run([sys.executable, "-S", os.path.join(TOP, "bin", "off2in"), *words], capture_output=True, check=False)
+        done = subprocess.run(
+            [sys.executable, "-S", os.path.join(TOP, "bin", "off2in"), *words], capture_output=True, check=False
+        )
         self.assertEqual((done.returncode, done.stderr), (0, b""))
         return done.stdout.decode().splitlines()
 
@@ -176,12 +187,12 @@ class Tool(tool_case.Case):
         for words, said in (
             ([good], "off2in: the following arguments are required: X,Y,Z"),
             ([], "off2in: the following arguments are required: FILE, X,Y,Z"),
-            ([good, "1,2"], "off2in: argument X,Y,Z: '1,2' is no point like 1,2.5,-1/3"),
-            ([good, "1,2,3,4"], "'1,2,3,4' is no point"),
-            ([good, "1,2,1/0"], "'1,2,1/0' is no point"),
-            ([good, "1,2,1e3"], "'1,2,1e3' is no point"),
-            ([good, "1,2,--3"], "'1,2,--3' is no point"),
-            ([good, "-1,2"], "'-1,2' is no point"),
+            ([good, "1,2"], "off2in: argument X,Y,Z: '1,2' is not a point like 1,2.5,-1/3"),
+            ([good, "1,2,3,4"], "'1,2,3,4' is not a point"),
+            ([good, "1,2,1/0"], "'1,2,1/0' is not a point"),
+            ([good, "1,2,1e3"], "'1,2,1e3' is not a point"),
+            ([good, "1,2,--3"], "'1,2,--3' is not a point"),
+            ([good, "-1,2"], "'-1,2' is not a point"),
             ([self.path("none"), "1,2,3"], "off2in: cannot open none: No such file"),
             ([self.file("b.4off", b"OFF\n"), "1,2,3"], "b.4off:1: error: the first line is not '4OFF'"),
             ([self.file("c.4off", off(box((0, 0, 0), (2, 2, 2))[1:])), "1,1,1"], "c.4off: error: not closed: 4 edges"),
@@ -189,7 +200,9 @@ class Tool(tool_case.Case):
         ):
             self.assert_fault(2, words, said)
         twice = self.file("f.4off", off(box((0, 0, 0), (4, 4, 4)) + box((1, 1, 1), (3, 3, 3))))
-        self.assert_fault(2, [twice, "0,0,0", "2,2,2"], "f.4off: error: 2,2,2: a way out from there crosses the faces 2 times more")
+        self.assert_fault(
+            2, [twice, "0,0,0", "2,2,2"], "f.4off: error: 2,2,2: a way out from there crosses the faces 2 times more"
+        )
 
 
 if __name__ == "__main__":

@@ -226,12 +226,16 @@ class Formulas(unittest.TestCase):
         box = Box((-1, 0, 2), (1, 4, 3))
         self.assertEqual(box.source, "translate([-1, 0, 2]) cube([2, 4, 1]);")
         self.assertEqual(box.values((0, 1, 2 + HALF)), [1, 1, 1, 3, HALF, HALF])
-        self.assertEqual([is_inside(box, it) for it in ((HALF, 3, 2 + THIRD), (HALF, 3, 4), (2, 1, 2 + HALF))], [True, False, False])
+        self.assertEqual(
+            [is_inside(box, it) for it in ((HALF, 3, 2 + THIRD), (HALF, 3, 4), (2, 1, 2 + HALF))], [True, False, False]
+        )
         cone = Cylinder((1, 1, 0), 6, 3, 0)
         self.assertEqual(cone.source, "translate([1, 1, 0]) cylinder(h=6, r1=3, r2=0, $fn=4);")
         # (six times: the radius at the height 3 is 3/2, and |x| and |y| are 1/2 and 1/3)
         self.assertEqual(sorted(cone.values((1 + HALF, 1 + THIRD, 3))), [3, 3, 4, 8, 10, 14])
-        self.assertEqual([is_inside(cone, it) for it in ((2, 1, 3), (2, 2, 3), (1, 1, 5), (1, 1, 7))], [True, False, True, False])
+        self.assertEqual(
+            [is_inside(cone, it) for it in ((2, 1, 3), (2, 2, 3), (1, 1, 5), (1, 1, 7))], [True, False, True, False]
+        )
 
     def test_joins(self):
         one, two = Box((0, 0, 0), (2, 2, 2)), Box((1, 0, 0), (3, 2, 2))

@@ -48,7 +48,7 @@ class Case(tool_case.Case):
 
 class Telling(Case):
     def told(self, data, *words):
-        """What is told of a solid, behind its name."""
+        """What is said about a solid, behind its name."""
         status, line = self.call(*words, "-o", self.path("a.stl"), self.file("a.4off", data))
         self.assertEqual(status, 0, line)
         self.assertTrue(line.startswith("a.4off: "))
@@ -252,8 +252,12 @@ class Many(Case):
         self.assert_fault(2, ["-o", self.path("a.stl"), "-d", self.path("out"), files[0]], "-o and -d can't both be given")
         self.assert_fault(2, ["-d", self.path("out"), files[0], files[0]], "would both be written to out/a.stl")
         self.assert_fault(2, ["-d", self.path("out"), "-"], "`-` is read once, and has no name for -d")
-        self.assert_fault(2, ["--info", "-d", self.path("out"), files[0]], "--info writes no solid, so it takes no -o and no -d")
-        self.assert_fault(2, ["-d", self.path("a.4off/x"), files[0]], "off2stl: cannot make the folder a.4off/x: Not a directory")
+        self.assert_fault(
+            2, ["--info", "-d", self.path("out"), files[0]], "--info writes no solid, so it takes no -o and no -d"
+        )
+        self.assert_fault(
+            2, ["-d", self.path("a.4off/x"), files[0]], "off2stl: cannot make the folder a.4off/x: Not a directory"
+        )
 
 
 class Faults(Case):
@@ -267,9 +271,9 @@ class Faults(Case):
         for words in ("--wide", "--uni 2", "--format ply", "--format", "-o", "--info -o a.stl", "b.4off"):
             self.assert_fault(2, [file, *words.split()], "off2stl: ")
         for unit in ("0", "0/7", "1/0", "-1", "1e9", ".", "1e", "1e-1/2", "1/2/3", "x", "", " 1", "1" * 10, "0.0", "0e5"):
-            self.assert_fault(2, [f"--unit={unit}", file], "is no number above 0")
+            self.assert_fault(2, [f"--unit={unit}", file], "is not a number above 0")
         for out in ("a", "a.ply", "stl"):
-            self.assert_fault(2, ["-o", self.path(out), file], "is no format: say --format")
+            self.assert_fault(2, ["-o", self.path(out), file], "is not a format: say --format")
 
     def test_files(self):
         out = ["-o", self.path("a.stl")]
@@ -281,7 +285,9 @@ class Faults(Case):
         for out in (file, self.path("b.off")):
             self.assert_fault(2, ["-o", out, file], ".off: that is the 4OFF text itself\n")
             self.assertEqual(self.bytes_of("a.off"), BLOCK)
-        self.assert_fault(2, ["-o", self.path("none/a.stl"), file], "off2stl: cannot write none/a.stl: No such file or directory\n")
+        self.assert_fault(
+            2, ["-o", self.path("none/a.stl"), file], "off2stl: cannot write none/a.stl: No such file or directory\n"
+        )
         os.mkdir(self.path("folder.stl"))
         self.assert_fault(2, ["-o", self.path("folder.stl"), file], "off2stl: cannot write folder.stl: Is a directory\n")
 
@@ -308,7 +314,7 @@ class Faults(Case):
         self.assertEqual(self.call("-o", self.path("a.stl"), tiny)[0], 0)
 
     def test_want_of_memory_is_told(self):
-        with mock.patch("scadserve.tools.off2tool.read_file", side_effect=MemoryError):
+        with mock.patch("scadserve.calls.off2tool.read_file", side_effect=MemoryError):
             self.assert_fault(6, [self.path("a.4off")], ": memory ran out\n")
 
     def test_texts(self):
@@ -316,8 +322,14 @@ class Faults(Case):
             (b"", "a.4off:1: error: the text is empty\n"),
             (b"part.scad:2:10: error: NotWhole\n", "a.4off:1: error: the first line is not '4OFF'\n"),
             (BLOCK[:-1], "a.4off:16: error: the text breaks off: no newline at its end\n"),
-            (off(box((0, 0, 0), (1, 1, 1))[1:]), "a.4off: error: not closed: 4 edges are not met as often one way as the other\n"),
-            (off([face[::-1] for face in box((0, 0, 0), (1, 2, 3))]), "a.4off: error: its faces look inward: the volume is -6\n"),
+            (
+                off(box((0, 0, 0), (1, 1, 1))[1:]),
+                "a.4off: error: not closed: 4 edges are not met as often one way as the other\n",
+            ),
+            (
+                off([face[::-1] for face in box((0, 0, 0), (1, 2, 3))]),
+                "a.4off: error: its faces look inward: the volume is -6\n",
+            ),
         ):
             words = ["-o", self.path("old.stl"), self.file("a.4off", data)]
             self.file("old.stl", b"as it was")
@@ -341,7 +353,9 @@ class Faults(Case):
     def test_standard_output_that_is_full(self):
         for words in ([], ["--help"]):
             with open("/dev/full", "wb") as full:
-                done = subprocess.run([TOP + "/bin/off2stl", *words], input=BLOCK, stdout=full, stderr=subprocess.PIPE, check=False)
+                done = subprocess.run(
+                    [TOP + "/bin/off2stl", *words], input=BLOCK, stdout=full, stderr=subprocess.PIPE, check=False
+                )
             said = b"off2stl: cannot write standard output: No space left on device\n"
             self.assertEqual((done.returncode, done.stderr), (2, said))
 

@@ -1,5 +1,5 @@
-"""OpenSCAD reads what off2stl writes as it is meant, and makes the same of the sources. Where it is not installed, the tests are
-skipped."""
+"""OpenSCAD reads what off2stl writes as it is meant, and makes the same of the sources. Where it is not installed, the tests
+are skipped."""
 
 import os
 import re

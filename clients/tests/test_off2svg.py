@@ -315,9 +315,9 @@ class Tool(tool_case.Case):
             (2, ["-o", self.path("a.scad"), good], "off2svg: a.scad would be an SVG picture, and has another ending"),
             (2, ["-o", self.path("a.PNG"), good], "off2svg: a.PNG would be an SVG picture, and has another ending"),
             (2, ["--view", "30", good], "off2svg: "),
-            (2, ["--view", "x", "1", good], "is no angle from -9999 to 9999 degrees"),
-            (2, ["--view", "1e9", "1", good], "is no angle from -9999 to 9999 degrees"),
-            (2, ["--width", "3", good], "is no width"),
+            (2, ["--view", "x", "1", good], "is not an angle from -9999 to 9999 degrees"),
+            (2, ["--view", "1e9", "1", good], "is not an angle from -9999 to 9999 degrees"),
+            (2, ["--width", "3", good], "is not a width"),
             (2, ["--wide", good], "off2svg: "),
         ):
             self.assert_fault(status, words, said)

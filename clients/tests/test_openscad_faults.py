@@ -1,4 +1,5 @@
-"""Faults by OpenSCAD's front end: each at the place that OpenSCAD names, with a word and a cure that fit, and never as a part."""
+"""Faults by OpenSCAD's front end: each at the place that OpenSCAD names, with a word and a cure that fit, and never as a part.
+"""
 
 import os
 import shutil
@@ -37,20 +38,32 @@ class Told(Calls):
     @needs_openscad
     def test_errors_are_told_at_openscads_place(self):
         self.write("lib.scad", "module m() { assert(1 > 2, \"no\"); cube(1); }\n")
-        self.assert_fault("cube(3);\ncube(\n\n;", "part.scad:4: error: Expected: Parser error: syntax error\n    ;", "look before it")
+        self.assert_fault(
+            "cube(3);\ncube(\n\n;", "part.scad:4: error: Expected: Parser error: syntax error\n    ;", "look before it"
+        )
         self.assert_fault(
             "cube(3);\nassert(false, \"too thin\");\n",
             "part.scad:2: error: AssertFailed: Assertion 'false' failed: \"too thin\"\n    assert(false, \"too thin\");",
             "its condition says",
         )
-        self.assert_fault("use <lib.scad>\n\nm();", "lib.scad:1: error: AssertFailed: Assertion '(1 > 2)' failed: \"no\"", "its condition")
-        self.assert_fault("\nmodule r() r();\nr();", "part.scad:2: error: TooDeep: Recursion detected calling module 'r'", "let the recursion")
+        self.assert_fault(
+            "use <lib.scad>\n\nm();", "lib.scad:1: error: AssertFailed: Assertion '(1 > 2)' failed: \"no\"", "its condition"
+        )
+        self.assert_fault(
+            "\nmodule r() r();\nr();", "part.scad:2: error: TooDeep: Recursion detected calling module 'r'", "let the recursion"
+        )
 
     @needs_openscad
     def test_a_design_that_is_empty_or_flat(self):
-        self.assert_fault("*cube(1);", "part.scad: error: Empty: this design makes no solid at all", "look for a * or %, an if, or a difference")
+        self.assert_fault(
+            "*cube(1);",
+            "part.scad: error: Empty: this design makes no solid at all",
+            "look for a * or %, an if, or a difference",
+        )
         said = "the design is flat, which OpenSCAD makes no solid of either: --flat 1 makes it 1 high"
-        self.assert_fault("square([2, 3]);", f"part.scad: error: WrongDimension: node 1, square: {said}", "linear_extrude(1) makes")
+        self.assert_fault(
+            "square([2, 3]);", f"part.scad: error: WrongDimension: node 1, square: {said}", "linear_extrude(1) makes"
+        )
         for tool, out in ((None, "part.4off"), (SCAD2STL, "part.stl")):
             status, _, said = self.call("--by-openscad", "--flat", "5/2", "part.scad", "-o", out, tool=tool)
             self.assertEqual(status, 0, said)
@@ -60,10 +73,13 @@ class Told(Calls):
     @needs_openscad
     def test_a_fault_of_a_node_names_it_by_its_number(self):
         source = "cube(1);\ntranslate([1, 2, 3]) linear_extrude(\"plan.dxf\", height = 1);"
-        said = "part.scad: error: BadArgument: node 3, linear_extrude: file is no argument that is read here: import(..) inside it reads a file"
+        said = (
+            "part.scad: error: BadArgument: node 3, linear_extrude: file is not an argument that is read here: import(..) "
+            "inside it reads a file"
+        )
         self.assert_fault(source, said, "openscad --render -o part.csg PART.scad writes the nodes")
-        self.assert_fault('rotate_extrude(file = "plan.dxf");', "part.scad: error: BadArgument: node 1, rotate_extrude: file is no argument"
-                          " that is read here: import(..) inside it reads a file", "openscad")  # fmt: skip
+        said = said.replace("node 3, linear_extrude", "node 1, rotate_extrude")
+        self.assert_fault('rotate_extrude(file = "plan.dxf");', said, "openscad")
 
     @needs_openscad
     def test_warnings_are_counted_last_or_are_faults(self):
@@ -74,7 +90,8 @@ class Told(Calls):
         status, said = self.told(source, "--strict")
         self.assertEqual(status, 1)
         for line in ("part.scad:2: error: Warned: Ignoring unknown module 'foo'\n    foo();\n",
-                     "part.scad:3: error: Warned: Unable to convert translate(undef) parameter to a vec3 or vec2 of numbers\n"):  # fmt: skip
+                     "part.scad:3: error: Warned: Unable to convert translate(undef) parameter to a vec3 or vec2 of "
+                     "numbers\n"):  # fmt: skip
             self.assertIn(line, said)
         status, said = self.told('import("none.stl");', "--strict")
         self.assertEqual(status, 1)
@@ -87,17 +104,26 @@ class Told(Calls):
     def test_what_is_left_out_is_told_or_a_fault(self):
         status, said = self.told("cube(1);\nsquare(4);")
         self.assertEqual(status, 0)
-        self.assertIn("since shapes in the plane and in space are joined, of which the first one's count: square at 2:1, node 2\n", said)
+        self.assertIn(
+            "since shapes in the plane and in space are joined, of which the first one's count: square at 2:1, node 2\n", said
+        )
         self.assertIn("1 warning by OpenSCAD", said.splitlines()[-1])
-        self.assert_fault("cube(1);\nsquare(4);", "part.scad: error: WrongDimension: node 2, square: OpenSCAD leaves it out: shapes in"
-                          " the plane and in space are joined, of which the first one's count", "linear_extrude", "--strict")  # fmt: skip
+        said = (
+            "part.scad: error: WrongDimension: node 2, square: OpenSCAD leaves it out: shapes in the plane and in space are "
+            "joined, of which the first one's count"
+        )
+        self.assert_fault("cube(1);\nsquare(4);", said, "linear_extrude", "--strict")
 
     @needs_openscad
     def test_a_nul_byte_is_refused_wherever_openscad_would_stop_reading(self):
         self.write("lib.scad", b"module m() cube(1);\n//\0\nmodule k() cube(2);\n")
-        self.assert_fault(b"cube(3);\0cube([1, 20, 30]);", "part.scad:1:9: error: BadCharacter: \\x00 can't stand here", "save it as plain")
+        self.assert_fault(
+            b"cube(3);\0cube([1, 20, 30]);", "part.scad:1:9: error: BadCharacter: \\x00 can't stand here", "save it as plain"
+        )
         for word in ("include", "use"):
-            self.assert_fault(f"{word} <lib.scad>\nm();", "lib.scad:2:3: error: BadCharacter: \\x00 can't stand here", "save it as plain")
+            self.assert_fault(
+                f"{word} <lib.scad>\nm();", "lib.scad:2:3: error: BadCharacter: \\x00 can't stand here", "save it as plain"
+            )
         # (what is named in a comment or a text is not read)
         self.assertEqual(self.told('// include <lib.scad>\n/* use <lib.scad> */ echo("use <lib.scad>"); cube(1);')[0], 0)
 
@@ -117,7 +143,9 @@ class Told(Calls):
     @needs_openscad
     def test_an_imported_pipe_is_refused(self):
         os.mkfifo(self.path("pipe.stl"))
-        self.assert_fault('import("pipe.stl");', "part.scad: error: NoFile: node 1, import: pipe.stl is no ordinary file", "openscad")
+        self.assert_fault(
+            'import("pipe.stl");', "part.scad: error: NoFile: node 1, import: pipe.stl is not an ordinary file", "openscad"
+        )
 
     @needs_openscad
     def test_what_is_far_off_is_refused_unless_it_is_asked_for(self):
@@ -125,7 +153,9 @@ class Told(Calls):
         turned = "linear_extrude(height = 5, twist = 200, slices = 1) translate([8, 0]) square([4, 2]);"
         status, said = self.told(turned)
         self.assertEqual(status, 1)
-        self.assertRegex(said, r"part\.scad: error: TooCoarse: a point is off by [0-9.]+, and 0\.[0-9]+ is allowed: --tolerance")
+        self.assertRegex(
+            said, r"part\.scad: error: TooCoarse: a point is off by [0-9.]+, and 0\.[0-9]+ is allowed: --tolerance"
+        )
         self.assertEqual(self.told(turned, "--fewer")[0], 0)
         self.assertEqual(self.told(turned, "--tolerance", "99")[0], 0)
         self.assertIn("and 1 is allowed", self.told(turned, "--fewer", "--tolerance", "1")[1])
@@ -151,7 +181,7 @@ class Forms(unittest.TestCase):
         for name in READ:
             with self.assertRaises(CsgFault) as caught:
                 read(f"{name}(\n  wrong = 1);")
-            self.assertEqual(str(caught.exception), f"2:3: BadArgument: {name}: wrong is no argument that is read here")
+            self.assertEqual(str(caught.exception), f"2:3: BadArgument: {name}: wrong is not an argument that is read here")
         for (name, argument), reason in PASSED_OVER.items():
             self.assertNotIn(argument, READ[name])
             self.assertGreater(len(reason.split()), 3)
@@ -164,12 +194,24 @@ class Forms(unittest.TestCase):
             (f"cube(size = [2, 2, 2]) {{ {CUBE} }}", "1:24: Expected: a ; should stand here"),
             ("cube(size = [2, 2, 2], center = 1);", "1:1: BadArgument: cube: center is neither true nor false"),
             ("cube(size = [2, 1e300, 2]);", "1:1: OutOfRange: cube: size holds 1e+300, and numbers up to 1e+12 are read"),
-            ("cylinder($fn = 1000000, h = 1, r1 = 1, r2 = 1);", "TooManyCorners: cylinder: it has 1000000 corners of a circle, and 10000 is the most"),
-            ("sphere($fn = 9999, r = 1);", "TooManyCorners: sphere: with it the curves of the design have 49995000 corners, and 400000"),
-            ("linear_extrude(height = 1, twist = 9, slices = 1e9) { square(size = [1, 1]); }", "it has 1000000000 slices, and 10000 is the most"),
+            (
+                "cylinder($fn = 1000000, h = 1, r1 = 1, r2 = 1);",
+                "TooManyCorners: cylinder: it has 1000000 corners of a circle, and 10000 is the most",
+            ),
+            (
+                "sphere($fn = 9999, r = 1);",
+                "TooManyCorners: sphere: with it the curves of the design have 49995000 corners, and 400000",
+            ),
+            (
+                "linear_extrude(height = 1, twist = 9, slices = 1e9) { square(size = [1, 1]); }",
+                "it has 1000000000 slices, and 10000 is the most",
+            ),
             ("multmatrix([[1e12, 0, 0, 0], [0, 1, 0, 0], [0, 0, 1, 0], [0, 0, 0, 1]]) {" * 30 + CUBE + "}" * 30, "OutOfRange"),
             ("hull() { }", "Empty: this design makes no solid at all"),
-            ("cube(size = [0.0001, 1, 1]);", "Empty: this design makes no solid at all. vanished, since it is thinner than the grid: cube at 1:1, node 1"),
+            (
+                "cube(size = [0.0001, 1, 1]);",
+                "Empty: this design makes no solid at all. vanished, since it is thinner than the grid: cube at 1:1, node 1",
+            ),
         ):
             with self.subTest(text=text[:80]):
                 self.assertIn(said, self.fault(text))
@@ -189,11 +231,16 @@ class Forms(unittest.TestCase):
         ball = "sphere($fn = -5, $fa = 0, $fs = 0, r = {0});"
         self.assertEqual(fragments(read(ball.format(0.01))[0], 0.01), 7)
         self.assertEqual(fragments(read(ball.format(5))[0], 5), 3142)
-        self.assertIn("sphere: with it the curves of the design have 4936082 corners, and 400000 is the most", self.fault(ball.format(5)))
+        self.assertIn(
+            "sphere: with it the curves of the design have 4936082 corners, and 400000 is the most", self.fault(ball.format(5))
+        )
 
     def test_what_vanishes_as_a_whole_and_what_loses_a_piece(self):
         # (an arrow whose tip is a tenth of the grid wide, and a plate that is thinner than it)
-        text = f"{CUBE} cube(size = [9, 9, 0.2]); linear_extrude(height = 2) {{ square(size = [8, 8]); square(size = [9, 0.3]); }}"
+        text = (
+            f"{CUBE} cube(size = [9, 9, 0.2]); linear_extrude(height = 2) {{ square(size = [8, 8]); square(size = [9, 0.3]); "
+            f"}}"
+        )
         told = converted(read(text), Wanted(unit=1, tolerance=1), Front(".")).told
         self.assertIn("vanished, since it is thinner than the grid: cube at 1:41, node 2", told)
         self.assertIn("without pieces that are thinner than the grid: linear_extrude at 1:67, node 3", told)

@@ -93,14 +93,16 @@ class Judged(Calls):
     def of_openscad(self, name):
         """What OpenSCAD makes of a source, None where that is nothing."""
         out = self.path(f"{name}.theirs")
-        subprocess.run(["openscad", "-o", f"{out}.off", self.path(f"{name}.scad")], capture_output=True, check=False, timeout=50)
+        subprocess.run(
+            ["openscad", "-o", f"{out}.off", self.path(f"{name}.scad")], capture_output=True, check=False, timeout=50
+        )
         if not os.path.exists(f"{out}.off"):
             return None
         with open(f"{out}.off", encoding="ascii") as file:
             return of_off(file.read())
 
     def both(self, sources):
-        """What is told of sources in one call, and both meshes of each."""
+        """What is said about sources in one call, and both meshes of each."""
         names = [self.write(f"part{at}.scad", source)[: -len(".scad")] for at, source in enumerate(sources)]
         words = ["--by-openscad", "--format", "off", "-d", "out", *(f"{it}.scad" for it in names)]
         status, _, said = self.call(*words, tool=SCAD2STL)

@@ -111,7 +111,9 @@ class Pages(unittest.TestCase):
 
     def test_the_table_of_a_script_has_its_lines_and_replies(self) -> None:
         text = PAGES[0].read_text(encoding="utf-8")
-        rows = re.findall(r"^\| `((?:left|right) [^`]*)` \| `([^`]*)`(?:, and (?:`([^`]*)`|\d+ lines[^|]*))? \|", text, re.MULTILINE)
+        rows = re.findall(
+            r"^\| `((?:left|right) [^`]*)` \| `([^`]*)`(?:, and (?:`([^`]*)`|\d+ lines[^|]*))? \|", text, re.MULTILINE
+        )
         script = Path(TOP, "examples/edits.script").read_text(encoding="ascii").splitlines()
         self.assertEqual([command for command, *_ in rows], script)
         output = Path(TOP, "examples/edits.output").read_text(encoding="ascii")
@@ -134,12 +136,20 @@ class Run(unittest.TestCase):
         server.chmod(0o755)
         path = os.pathsep.join([str(self.folder / "bin"), os.path.dirname(sys.executable), os.environ["PATH"]])
         clients = os.path.join(TOP, "clients")
-        self.environment = {**os.environ, "PATH": path, "SCADSERVE": str(server), "PYTHONPATH": clients, "PYTHONDONTWRITEBYTECODE": "1"}
+        self.environment = {
+            **os.environ, "PATH": path, "SCADSERVE": str(server), "PYTHONPATH": clients, "PYTHONDONTWRITEBYTECODE": "1"
+        }
 
     def printed(self, *words: str) -> str:
         """What a command prints, on both streams."""
         done = subprocess.run(
-            words, cwd=self.folder, env=self.environment, stdout=subprocess.PIPE, stderr=subprocess.STDOUT, timeout=60, check=False
+            words,
+            cwd=self.folder,
+            env=self.environment,
+            stdout=subprocess.PIPE,
+            stderr=subprocess.STDOUT,
+            timeout=60,
+            check=False,
         )
         return done.stdout.decode()
 
@@ -181,7 +191,9 @@ class Run(unittest.TestCase):
         for page in PAGES:
             ends = [it.first for it in blocks(page) if it.kind == ""]
             for block in (it for it in blocks(page) if it.kind == "python"):
-                self.assertIn(block.first + len(block.lines) + 2, ends, f"{block.place()}: a block without a word of what it prints")
+                self.assertIn(
+                    block.first + len(block.lines) + 2, ends, f"{block.place()}: a block without a word of what it prints"
+                )
 
     def test_sources_are_solids(self) -> None:
         found = [it for page in PAGES for it in blocks(page) if it.kind == "openscad"]

@@ -14,21 +14,34 @@ from unittest import mock
 from tests import calls
 
 TOP = Path(calls.TOP)
-PAGES = [*sorted(TOP.glob("*.md")), *sorted((TOP / "docs").rglob("*.md"))]
-LONG = {"PROMISE.md", "ALGORITHM.md", "TALLY.md", "LAWS.md", "COSTS.md", "SPECIFICATION.md", "FAULTS.md", "PROOFS.md", "OPENSCAD.md"}
+PAGES = [*sorted(TOP.glob("*.md")), TOP / "crates/README.md", *sorted((TOP / "docs").rglob("*.md"))]
+LONG = {
+    "PROMISE.md", "ALGORITHM.md", "TALLY.md", "LAWS.md", "COSTS.md", "SPECIFICATION.md", "FAULTS.md", "PROOFS.md", "OPENSCAD.md"
+}
 # A page that tools/gallery.sh makes, with a line for each part's files.
 WIDE = {"GALLERY"}
-# Pages, and folders of pages, in which the phrases of docs/WORDS.md are not written.
-PLAIN = [
-    "CONTRIBUTING.md",
-    "docs/ARCHITECTURE.md",
-    "docs/CONTRACTS.md",
-    "docs/GATE.md",
-    "docs/LANGUAGE.md",
-    "docs/SPECIFICATION.md",
-    "docs/THEOREMS.md",
-    "docs/WORDS.md",
-]
+# What the phrases of docs/WORDS.md are not written in, beside all pages: the sources of these endings below these folders, and
+# of crates the comments alone.
+PLAIN = {
+    "bench": (".py", ".sh", ".txt"),
+    "bin": ("",),
+    "clients/scadserve": (".py", ".js", ".css", ".html"),
+    "clients/tests": (".py",),
+    "crates": (".rt", ".antt"),
+    "library": (".scad",),
+    "model": (".py",),
+    "tools": (".py", ".sh", ".css", ".js"),
+}
+# Phrases that comments of crates have, and so the pages made of these: a change of a comment has the crate proved again, so
+# that they go with the next change there.
+OF_CRATES = {"is no number", "is no list", "is no name", "so often"}
+# Files that have the phrases, and why.
+QUOTES = {
+    "clients/tests/test_pages.py": "it tries the test itself",
+    "docs/WORDS.md": "its list of phrases is left out",
+    "crates/memo_core/src/fit.rt": "its first line is mended with the next change there",
+    "crates/plain_text/src/memory.rt": "so is this one",
+}
 SOURCES = {".rt", ".antt", ".py", ".sh", ".txt", ".scad", ".rs"}
 sys.path.insert(0, str(TOP / "tools"))
 
@@ -151,6 +164,23 @@ def statement_here() -> statement_pages.Statement:
     return statement_pages.read(TOP)
 
 
+def refused_phrases() -> list[str]:
+    """The phrases that docs/WORDS.md lists as not written."""
+    table = (TOP / "docs/WORDS.md").read_text(encoding="utf-8").split("## Phrases that are not written")[1]
+    return re.findall(r"^\| `([^`]+)` \|", table, re.MULTILINE)
+
+
+def phrases_in(text: str, phrases: list[str]) -> list[str]:
+    """Those of the phrases that a text has, in any case and across lines; `there is no` is another phrase than `is no`."""
+    flat = re.sub(r"[\s#*/\"\\]+", " ", text).lower()
+    return [it for it in phrases if re.search(rf"(?<!there )\b{re.escape(it.lower())}\b", flat)]
+
+
+def comments(text: str) -> str:
+    """The lines of a source of a crate that are comments."""
+    return "\n".join(it for it in map(str.strip, text.splitlines()) if it.startswith(("//", "--")))
+
+
 class Written(unittest.TestCase):
     """The pages that tools write."""
 
@@ -220,18 +250,34 @@ class Form(unittest.TestCase):
                     self.assertTrue(any((TOP / it.format(name)).exists() for it in places[kind]), f"{kind} {name}")
 
     def test_phrases_that_are_not_written_are_not_there(self) -> None:
-        table = (TOP / "docs/WORDS.md").read_text(encoding="utf-8").split("## Phrases that are not written")[1]
-        phrases = re.findall(r"^\| `([^`]+)` \|", table, re.MULTILINE)
-        self.assertGreater(len(phrases), 5)
-        for name in PLAIN:
-            path = TOP / name
-            for page in sorted(path.glob("*.md")) if path.is_dir() else [path]:
-                text = page.read_text(encoding="utf-8")
-                text = text.split("## Phrases that are not written")[0] if page.name == "WORDS.md" else text
-                text = re.sub(r"<!-- made by .*?<!-- end -->", "", text, flags=re.DOTALL)
-                text = " ".join(text.split()).lower()
-                for phrase in phrases:
-                    self.assertNotRegex(text, rf"\b{re.escape(phrase.lower())}\b", page.name)
+        phrases = refused_phrases()
+        self.assertGreater(len(phrases), 15)
+        for page in PAGES:
+            text = page.read_text(encoding="utf-8")
+            text = text.split("## Phrases that are not written")[0] if page.name == "WORDS.md" else text
+            of_crates = OF_CRATES if page.parent.name == "statement" else set()
+            self.assertEqual(set(phrases_in(text, phrases)) - of_crates, set(), page.name)
+        for folder, endings in PLAIN.items():
+            for file in [it for it in sorted((TOP / folder).rglob("*")) if it.suffix in endings and it.is_file()]:
+                name = file.relative_to(TOP).as_posix()
+                if name not in QUOTES and "/out/" not in name and "__pycache__" not in name:
+                    text = file.read_text(encoding="utf-8")
+                    of_crates = folder == "crates"
+                    found = set(phrases_in(comments(text), phrases)) - OF_CRATES if of_crates else phrases_in(text, phrases)
+                    self.assertEqual(sorted(found), [], name)
+
+    def test_a_phrase_is_found_across_lines_and_not_where_there_is_none(self) -> None:
+        phrases = ["so many", "is no program"]
+        for text, found in (
+            ("after so\nmany seconds", ["so many"]),
+            ("So  Many", ["so many"]),
+            ("whether it is no program", ["is no program"]),
+            ("there is no program", []),
+            ("also many", []),
+        ):
+            self.assertEqual(phrases_in(text, phrases), found, text)
+        self.assertEqual(phrases_in(comments("-- so many\nx = so many\n"), phrases), ["so many"])
+        self.assertEqual(phrases_in(comments("    x = so many;\n"), phrases), [])
 
     def test_names_of_the_code_are_there(self) -> None:
         folders = ("crates", "clients", "tools", "bench", "examples")
@@ -241,7 +287,7 @@ class Form(unittest.TestCase):
             words.update(re.findall(r"\w+", file.read_text(encoding="utf-8")))
         for page in [it for it in PAGES if it.parent.name != "statement" and it.name not in ("CHANGELOG.md", "OPENSCAD.md")]:
             for name in re.findall(r"`(\w+_\w+)(?:`|\(| )", page.read_text(encoding="utf-8")):
-                self.assertTrue(name in words, f"{page.name} has {name}, which is no name of the sources")
+                self.assertTrue(name in words, f"{page.name} has {name}, which is not a name of the sources")
 
 
 class Definitions(unittest.TestCase):
@@ -369,9 +415,20 @@ class Layout(unittest.TestCase):
         ])  # fmt: skip
 
     def test_plain_fields_share_a_line_and_statements_do_not(self) -> None:
-        text = "-- a pair\npub record Pair : Type 0 where\n  pub a : ℕ\n  pub b : List (List ℕ)\n  pub is : a ≡ 1\n  pub and : P a\n"
+        text = (
+            "-- a pair\npub record Pair : Type 0 where\n  pub a : ℕ\n  pub b : List (List ℕ)\n  pub is : a ≡ 1\n  pub and : P "
+            "a\n"
+        )
         self.assertEqual(laid_definition(self.definition(text)), [
             "record Pair : Type 0 where  -- a pair", "  a : ℕ; b : List (List ℕ)", "  is : a ≡ 1", "  and : P a",
+        ])  # fmt: skip
+
+    def test_rows_of_a_table_share_a_line_and_other_equations_do_not(self) -> None:
+        text = "-- a number\npub number : Kind → ℕ\nnumber One = some\nnumber (Two n) = n\n"
+        text += "number Three = suc 2\nnumber Four = 4\n"
+        self.assertEqual(laid_definition(self.definition(text)), [
+            "number : Kind → ℕ  -- a number", "  number One = some; number (Two n) = n", "  number Three = suc 2",
+            "  number Four = 4",
         ])  # fmt: skip
 
     def test_no_word_of_a_definition_is_lost(self) -> None:
@@ -518,7 +575,9 @@ class Crates(unittest.TestCase):
 
     def test_each_layer_has_a_table(self) -> None:
         house = House([("planes", "sides of planes")], {"low": Crate("low", 0, [])})
-        self.assertIn("**Planes:** sides of planes.\n\n| Crate | What it is |\n|---|---|\n| `low` | Sides, ", tables(house, self.top))
+        self.assertIn(
+            "**Planes:** sides of planes.\n\n| Crate | What it is |\n|---|---|\n| `low` | Sides, ", tables(house, self.top)
+        )
 
 
 if __name__ == "__main__":

@@ -164,7 +164,7 @@ class Program(Calls):
         self.write("part.scad", "w = 2; cube(w);\n")
         self.assertIn(b"\n8 8 8 1\n", self.call("part.scad", "-D", "w=3", "-D", "w=2 * 4")[1])
         error = self.call("part.scad", "-D", "w=7 / 2")[2]
-        said = "-D w=7 / 2: error: NotWhole: what / gives is no whole number (with part.scad)\n"
+        said = "-D w=7 / 2: error: NotWhole: what / gives is not a whole number (with part.scad)\n"
         self.assertTrue(error.decode().startswith(said), error)
 
     def test_a_source_is_told_of_its_own_end_and_not_of_assignments_behind_it(self):
@@ -210,7 +210,7 @@ class Program(Calls):
             self.assertEqual(server.wait(100), 5)
 
     def most_threads(self, workers, script):
-        """The most threads that were seen while a script was served by so many workers."""
+        """The most threads that were seen while a script was served by this many workers."""
         words = [PROGRAM, "run", "--workers", str(workers)]
         with subprocess.Popen(words, stdin=subprocess.PIPE, stdout=subprocess.DEVNULL) as server:
             server.stdin.write(script.encode())

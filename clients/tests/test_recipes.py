@@ -43,14 +43,16 @@ class Make(Calls):
         self.later("a.scad", "b.scad", "lib/sizes.scad", "lib/pins.scad", seconds=-100)
 
     def later(self, *names, seconds):
-        """Makes files so many seconds younger than now."""
+        """Makes files this many seconds younger than now."""
         now = os.stat(self.folder).st_mtime
         for name in names:
             os.utime(self.path(name), (now + seconds, now + seconds))
 
     def make(self):
         done = subprocess.run(
-            ["make", "-k", "all", "a.4off", "b.4off"], cwd=self.folder, env=self.environment, capture_output=True, timeout=300, check=False
+            [
+                "make", "-k", "all", "a.4off", "b.4off"
+            ], cwd=self.folder, env=self.environment, capture_output=True, timeout=300, check=False
         )
         return done.returncode, done.stderr.decode()
 
@@ -150,7 +152,9 @@ class Service(Calls):
     @needs_program
     def test_the_program_itself_is_served(self):
         self.server(PROGRAM)
-        with open(os.path.join(TOP, "examples", "box.script"), "rb") as script, open(os.path.join(TOP, "examples", "box.output"), "rb") as output:
+        with open(os.path.join(TOP, "examples", "box.script"), "rb") as script, open(
+            os.path.join(TOP, "examples", "box.output"), "rb"
+        ) as output:
             with self.listening():
                 self.assertEqual(self.served(script.read()), output.read())
 

@@ -25,7 +25,10 @@ from tests.needs import needs
 NAME = f"scadserve-{VERSION}-x86_64-linux"
 TARBALL, PACKAGE = f"{NAME}.tar.gz", f"scadserve_{VERSION}_amd64.deb"
 # What the release is made from, beside the starters of the tools.
-TAKEN = "README.md CHANGELOG.md CONTRIBUTING.md clients docs examples gallery install.sh library memory.sh pyproject.toml scadserve tools .gitignore".split()
+TAKEN = [
+    *("README.md", "CHANGELOG.md", "CONTRIBUTING.md", "clients", "docs", "examples", "gallery", "install.sh", "library"),
+    *("memory.sh", "pyproject.toml", "scadserve", "tools", ".gitignore"),
+]
 # (the Python that runs this, and no rt)
 PATH = f"{os.path.dirname(sys.executable)}:/usr/bin:/bin"
 TRY_IT = "scad2off examples/bracket.scad -o $0/b.4off && off2stl $0/b.4off -o $0/b.stl && off2svg $0/b.4off -o $0/b.svg"
@@ -275,7 +278,9 @@ class Release(unittest.TestCase):
         done = run("python3", "-B", "-c", WHEEL, str(self.folder), at=at)
         self.assertEqual((done.stdout, done.stderr), (f"scadserve-{VERSION}-py3-none-linux_x86_64.whl\n", ""))
         with zipfile.ZipFile(self.folder / done.stdout.strip()) as it:
-            self.assertEqual(it.read("scadserve/release/libexec/scadserve"), (self.one / "crates/scadserve/out/scadserve").read_bytes())
+            self.assertEqual(
+                it.read("scadserve/release/libexec/scadserve"), (self.one / "crates/scadserve/out/scadserve").read_bytes()
+            )
 
     def test_pip_installs_the_tools_and_the_module(self) -> None:
         if "--python" not in run("python3", "-m", "pip", "--help", at=self.folder).stdout:

@@ -2,9 +2,25 @@
 
 import glob
 import os
+import re
 import unittest
 
-from scadserve.server.replies import Complex, Fault, Malformed, NoMemory, Ok, Refused, Solid, Text, printed, read
+from scadserve.server.failures import Malformed
+from scadserve.server.replies import (
+    RULES,
+    Complex,
+    Fault,
+    NoMemory,
+    Ok,
+    Refused,
+    Session,
+    Solid,
+    Text,
+    commands_of,
+    printed,
+    read,
+)
+from tests.case_rows import rows, spelled
 
 TOP = os.path.dirname(os.path.dirname(os.path.dirname(os.path.realpath(__file__))))
 EMPTY = b"4OFF\n0 0 0\n"
@@ -33,6 +49,51 @@ class Examples(unittest.TestCase):
         self.assertEqual((left[2].vertices, left[2].faces, left[2].text[:12]), (8, 6, b"4OFF\n8 6 0\n0"))
         self.assertEqual(left[3], Refused("NoSuchLine"))
         self.assertEqual(right[1], Fault(2, 1, "Expected"))
+
+
+def replies_of(commands):
+    """What a session answers these commands; None for an export that the source decides."""
+    session = Session()
+    return [session.answer(it) for it in commands]
+
+
+class ServerCases(unittest.TestCase):
+    """The table of a session's rules beside the cases of the server, whose answers were worked by hand."""
+
+    def cases(self):
+        """The scripts that are served, each with the number of its row, its kind and its whole output or the end of it."""
+        for number, case, answer in rows("server_cases"):
+            words, _, script = case.partition(b" /")
+            kind = words.partition(b" ")[0]
+            if kind in (b"serve", b"tail") and answer.startswith(b"Done ") and b"--tally" not in words and script.strip():
+                script, output = (spelled(it.replace(b"|", b"\n")) for it in (script[1:], answer[len(b"Done ") :]))
+                yield number, kind, script, output
+
+    def test_the_table_gives_the_replies_of_the_server(self):
+        met = set()
+        for number, kind, script, output in self.cases():
+            clients = commands_of(script)
+            wanted = {name: replies_of(commands) for name, commands in clients.items()}
+            with self.subTest(row=number):
+                if kind == b"serve":
+                    # (which refuses an output that has another reply than the table gives)
+                    read(script, output)
+                else:
+                    *_, known = wanted.values()
+                    for at, first in re.findall(rb"(?m)^([0-9]+) ((?:ok|refused|text) \w+)$", output.rpartition(b"== ")[2]):
+                        self.assertEqual(bytes(known[int(at) - 1]).splitlines()[0], first)
+            for name, commands in clients.items():
+                for command, found in zip(commands, wanted[name]):
+                    if isinstance(found, Refused):
+                        met.add((command.partition(b" ")[0], found.word))
+        # (each refusal of the table is one that the server answers in some case)
+        names = {rule.name: [word for word, _ in rule.refusals] for rule in RULES}
+        self.assertEqual({(name, word) for name, words in names.items() for word in words} - met, set())
+
+    def test_an_output_with_another_reply_is_refused(self):
+        for script, output in ((b"a put 2 x", b"1 ok 1"), (b"a cut 1 1", b"1 refused BadCommand"), (b"a set 1", b"1 ok 1")):
+            with self.subTest(script=script), self.assertRaises(Malformed):
+                read(script, b"== a\n" + output + b"\n")
 
 
 class Kinds(unittest.TestCase):

@@ -74,7 +74,7 @@ class Files(Calls):
                     if feed:
                         feed.join()
                     self.assertEqual((status, out), wanted)
-                    first = f"{name}:1:3: error: NotWhole: 6.5 is no whole number\n" if status else ""
+                    first = f"{name}:1:3: error: NotWhole: 6.5 is not a whole number\n" if status else ""
                     self.assertTrue(error.decode().startswith(first), error)
 
     def test_the_output_of_a_command_is_a_file(self):
@@ -91,7 +91,7 @@ class Files(Calls):
                 self.assertEqual(self.call("--", self.write(name, "w=8;\n"), stdin=b"w=6;\n"), (0, BOX_8, b""))
                 status, out, error = self.call("--", self.write(name, "cube(2.5);\n"))
                 self.assertEqual((status, out), (1, b""))
-                self.assertEqual(error.split(b"\n")[0], os.fsencode(name) + b":1:6: error: NotWhole: 2.5 is no whole number")
+                self.assertEqual(error.split(b"\n")[0], os.fsencode(name) + b":1:6: error: NotWhole: 2.5 is not a whole number")
 
     def test_a_file_that_cannot_be_read_is_told_at_once(self):
         os.mkdir(self.path("folder"))
@@ -165,7 +165,7 @@ class Places(Calls):
         self.assertEqual((status, out), (1, b""))
         self.assertEqual(
             error.decode(),
-            "part.scad:2:11: error: NotWhole: 2.5 is no whole number\n"
+            "part.scad:2:11: error: NotWhole: 2.5 is not a whole number\n"
             "    \tcube([1, 2.5, 3]);\n"
             "    \t         ^\n"
             "    cure: write lengths in tenths, 25 for 2.5, and print by off2stl --unit 1/10; "

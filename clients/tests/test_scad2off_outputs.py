@@ -64,6 +64,33 @@ class Outputs(Calls):
         self.assertEqual(self.call("-o", "part.4off", self.write("part.scad", "cube(2.5);\n"))[0], 1)
         self.assertEqual(self.names(), ["part.scad"])
 
+    def test_a_folder_that_is_a_link_out_of_the_folder_is_written_and_loses_nothing(self):
+        self.write("part.scad", "w=6;\n")
+        os.makedirs(self.path("away/deep"))
+        self.write("away/other", "old\n")
+        self.write("away/elsewhere", "old\n")
+        os.symlink("../elsewhere", self.path("away/deep/part.4off"))
+        os.symlink(self.path("away"), self.path("out"))
+        for name, to in (("deep", "away/deep"), ("gone", "away/none"), ("ring", "ring"), ("file", "away/other")):
+            os.symlink(to, self.path(name))
+        one = b"1 file: 1 solid, 0 faults\n"
+        self.assertEqual(self.call("-d", "out", "part.scad"), (0, b"", one))
+        self.assertEqual(self.read("away/part.4off"), BOX_6)
+        # A link in it is followed too, and stays.
+        self.assertEqual(self.call("-d", "deep", "part.scad"), (0, b"", one))
+        self.assertEqual((self.read("away/elsewhere"), os.readlink(self.path("away/deep/part.4off"))), (BOX_6, "../elsewhere"))
+        for name in ("gone", "ring", "file"):
+            status, out, error = self.call("-d", name, "part.scad")
+            self.assertEqual((status, out, error), (2, b"", f"scad2off: cannot make the folder {name}: File exists\n".encode()))
+        self.assertEqual(self.read("away/other"), b"old\n")
+        self.assertEqual(sorted(os.listdir(self.path("away"))), ["deep", "elsewhere", "other", "part.4off"])
+        self.assertEqual(os.listdir(self.path("away/deep")), ["part.4off"])
+        self.assertEqual(self.names(), ["away", "deep", "file", "gone", "out", "part.scad", "ring"])
+        # A fault takes away what was made there, and nothing else.
+        self.write("part.scad", "cube(2.5);\n")
+        self.assertEqual(self.call("-d", "out", "part.scad")[0], 1)
+        self.assertEqual(sorted(os.listdir(self.path("away"))), ["deep", "elsewhere", "other"])
+
     def test_a_link_stays_and_its_file_is_written(self):
         os.mkdir(self.path("there"))
         os.symlink("there/part.4off", self.path("part.4off"))

@@ -16,7 +16,9 @@ BOX_6, BOX_8 = (BOX.format(it).encode() for it in (6, 8))
 
 
 # What -D does not take: nothing assigned, several assignments, and what would be more than one with the `;` behind it.
-NO_DEFINITIONS = ["w", "w=", "2=w", "=2", "w=1\nx=2", "w=1; x=2", "w=6; cube(9)", "w=6; }", "w=6 //", "w=(6", "cube(2)", "w==6", ""]
+NO_DEFINITIONS = [
+    "w", "w=", "2=w", "=2", "w=1\nx=2", "w=1; x=2", "w=6; cube(9)", "w=6; }", "w=6 //", "w=(6", "cube(2)", "w==6", ""
+]
 
 
 class Words(Calls):
@@ -43,7 +45,7 @@ class Words(Calls):
         self.assertEqual((status, out), (1, b""))
         self.assertEqual(
             error.decode().splitlines()[:3],
-            ["-D w=2.5: error: NotWhole: 2.5 is no whole number (with part.scad)", "    w=2.5;", "      ^"],
+            ["-D w=2.5: error: NotWhole: 2.5 is not a whole number (with part.scad)", "    w=2.5;", "      ^"],
         )
 
     def test_a_limit_that_an_assignment_passes_is_told_of_it(self):
@@ -62,7 +64,7 @@ class Words(Calls):
             firsts,
             [
                 "open.scad:3:1: error: Expected: the source ends in the middle of a statement",
-                "half.scad:1:6: error: NotWhole: 2.5 is no whole number",
+                "half.scad:1:6: error: NotWhole: 2.5 is not a whole number",
             ],
         )
         self.assertEqual(self.read("out/good.4off"), BOX_8)
@@ -144,7 +146,7 @@ class Words(Calls):
 class Statuses(Calls):
     def test_a_fault_of_the_server_is_its_status(self):
         for status, said in (
-            (3, "what it was sent is no script"),
+            (3, "what it was sent is not a script"),
             (4, "it could not read what it was sent"),
             (5, "it could not write its output"),
             (6, "memory ran out: convert fewer files at once"),
@@ -162,7 +164,7 @@ class Statuses(Calls):
             with self.subTest(line=line):
                 status, out, error = self.call(self.write("part.scad", line))
                 self.assertEqual((status, out), (125, b""))
-                self.assertTrue(error.startswith(b"scad2off: the server's output is no answer: "), error)
+                self.assertTrue(error.startswith(b"scad2off: the server's output is not an answer: "), error)
 
     def test_a_server_that_does_not_start_is_told(self):
         self.assertEqual(

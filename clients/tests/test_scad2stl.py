@@ -34,7 +34,9 @@ class Case(Calls):
 class Meshes(Case):
     def test_a_mesh_of_a_source(self):
         status, out, said = self.make(self.write("part.scad", "w = 6;\n"))
-        self.assertEqual((status, said), (0, ["part.scad: 6 faces, 12 triangles, 1 part, closed; unit 1 mm; box 6 x 6 x 6; volume 216"]))
+        self.assertEqual(
+            (status, said), (0, ["part.scad: 6 faces, 12 triangles, 1 part, closed; unit 1 mm; box 6 x 6 x 6; volume 216"])
+        )
         self.assertTrue(out.startswith(b"solid part\n") and out.endswith(b"endsolid part\n"))
         self.assertEqual(out.count(b"outer loop"), 12)
 
@@ -64,7 +66,7 @@ class Meshes(Case):
         status, out, said = self.make("-d", "out", "--format", "3mf", "good.scad", "bad.scad", "none.scad")
         self.assertEqual((status, out, os.listdir(self.path("out"))), (2, b"", ["good.3mf"]))
         self.assertEqual(said[0], "scad2stl: cannot open none.scad: No such file or directory")
-        self.assertIn("bad.scad:1:6: error: NotWhole: 2.5 is no whole number", said)
+        self.assertIn("bad.scad:1:6: error: NotWhole: 2.5 is not a whole number", said)
         self.assertIn("out/bad.3mf: removed, since it was made of an earlier source", said)
         self.assertEqual(said[-1], "3 files: 1 solid, 1 fault, 1 not read or written")
 
@@ -85,8 +87,8 @@ class Meshes(Case):
             (["part.scad", "part.scad"], "several FILEs need -d DIR"),
             (["-o", "a.4off", "part.scad"], "a.4off would be a mesh: scad2off makes a 4OFF text of a source"),
             (["-o", "part.scad", "part.scad"], "part.scad would be a mesh: that is the ending of a source"),
-            (["-o", "a.ply", "part.scad"], "the ending of a.ply is no format: say --format (see scad2stl --help)"),
-            (["--unit", "0", "part.scad"], "argument --unit: '0' is no number above 0 and below 10^9 like 2, 25.4 or 1/10 "),
+            (["-o", "a.ply", "part.scad"], "the ending of a.ply is not a format: say --format (see scad2stl --help)"),
+            (["--unit", "0", "part.scad"], "argument --unit: '0' is not a number above 0 and below 10^9 like 2, 25.4 or 1/10 "),
             (["--for", "stl", "part.scad"], "unrecognized arguments: --for"),
             (["-o", "a.stl", "-d", "out", "part.scad"], "-o and -d can't both be given"),
         ):
@@ -98,7 +100,7 @@ class Meshes(Case):
 
 class Units(Case):
     def unit_of(self, source, *words):
-        """The unit that is told of a source."""
+        """The unit that is told about a source."""
         status, _, said = self.make("-o", "a.stl", *words, self.write("part.scad", source))
         self.assertEqual(status, 0, said)
         return re.search(r"; unit (\S+) mm; box (\S+) x", said[-1]).groups()
@@ -173,7 +175,9 @@ SIZES = {"one": (2.5, 1, 1), "two": (4, 1.5, 0.1), "three": (3.5, 1, 1), "four":
 class ByTheProgram(Case):
     def setUp(self):
         super().setUp()
-        self.environment = {**self.environment, "SCADSERVE": PROGRAM, "PATH": os.path.join(TOP, "bin") + os.pathsep + self.environment["PATH"]}
+        self.environment = {
+            **self.environment, "SCADSERVE": PROGRAM, "PATH": os.path.join(TOP, "bin") + os.pathsep + self.environment["PATH"]
+        }
 
     def write_folder(self):
         os.mkdir(self.path("lib"))
@@ -211,8 +215,12 @@ class ByTheProgram(Case):
         self.write("plate.scad", touching.BOARD + touching.PLATE)
         status, _, said = self.make("-d", "out", "board.scad", "plate.scad")
         self.assertEqual(status, 0)
-        self.assertIn(", 96 triangles, 8 parts, closed, 9 edges of more than two faces; unit 1 mm; box 40 x 40 x 5; volume 4000", said[0])
-        self.assertIn(", 114 triangles, 1 part, closed, 9 edges of more than two faces; unit 1 mm; box 40 x 40 x 7; volume 7200", said[1])
+        self.assertIn(
+            ", 96 triangles, 8 parts, closed, 9 edges of more than two faces; unit 1 mm; box 40 x 40 x 5; volume 4000", said[0]
+        )
+        self.assertIn(
+            ", 114 triangles, 1 part, closed, 9 edges of more than two faces; unit 1 mm; box 40 x 40 x 7; volume 7200", said[1]
+        )
 
 
 if __name__ == "__main__":

@@ -316,8 +316,8 @@ class Runs(unittest.TestCase):
         self.assertEqual(scripts.read(bytes(script), output)["a"][4], Text((line, b"\r", b"x\r\r", b"")))
 
 
-# A program that runs a server in its main thread, or in one that doesn't keep it from ending; and the server, which leaves a file
-# once it runs, and another one at its end.
+# A program that runs a server in its main thread, or in one that doesn't keep it from ending; and the server, which leaves a
+# file once it runs, and another one at its end.
 PROGRAM = """import sys, threading, time
 sys.path.insert(0, {package!r})
 from scadserve.server.scripts import Script, run

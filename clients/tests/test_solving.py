@@ -37,13 +37,17 @@ class Solving(Case):
     def test_a_fault_has_its_place_and_its_message(self):
         [fault] = self.solve(["// a part\ncube(2.5);"])
         self.assertEqual((fault.word, fault.file, fault.line, fault.column), ("NotWhole", "<source 1>", 2, 6))
-        self.assertTrue(str(fault).startswith("<source 1>:2:6: error: NotWhole: 2.5 is no whole number\n    cube(2.5);\n         ^\n"))
+        self.assertTrue(
+            str(fault).startswith("<source 1>:2:6: error: NotWhole: 2.5 is not a whole number\n    cube(2.5);\n         ^\n")
+        )
         self.assertIn("cure: ", fault.message)
 
     def test_limits_and_want_of_memory_are_faults_without_a_place(self):
         long, *others = self.solve(["a" * 2000, "//= complex facets", "//= complex solid 7", "//= nomem"])
         self.assertEqual((long.word, long.line, long.column), ("TooLong", 1, 1017))
-        self.assertEqual([(it.word, it.line) for it in others], [("complex facets", None), ("complex solid", None), ("nomem", None)])
+        self.assertEqual(
+            [(it.word, it.line) for it in others], [("complex facets", None), ("complex solid", None), ("nomem", None)]
+        )
 
     def test_files_are_read_with_what_they_include(self):
         self.write("lib.scad", "w = 3;\n")
@@ -62,7 +66,7 @@ class Solving(Case):
         self.assertIn(b"put 2 a=[1, [true, undef]];", self.runs()[-1][1])
         self.assertIn(b'put 3 $b="x\\"\\\\\\n";', self.runs()[-1][1])
         for name in ("1a", "a b", "a;b", "", 3):
-            with self.assertRaisesRegex(ValueError, "no name of a variable"):
+            with self.assertRaisesRegex(ValueError, "is not a name of a variable"):
                 self.solve(["w = 2;"], definitions={name: 1})
 
     def test_a_definition_that_no_source_uses(self):
@@ -92,7 +96,11 @@ class Solving(Case):
             ({"server": 3}, TypeError, "a server is a program or a list of words, and not 3"),
             ({"half": 1}, TypeError, "half is True or False, and not 1"),
             ({"by_openscad": "no"}, TypeError, "by_openscad is True or False, and not 'no'"),
-            ({"half": True, "by_openscad": True}, ValueError, "by_openscad chooses its grid itself, so half can't be given with it"),
+            (
+                {"half": True, "by_openscad": True},
+                ValueError,
+                "by_openscad chooses its grid itself, so half can't be given with it",
+            ),
             ({"folders": "lib"}, TypeError, "folders are a list of folders, and not 'lib'"),
             ({"time": "3"}, TypeError, "time is a number of seconds, and not '3'"),
             ({"time": -1}, ValueError, "time is 0 or more seconds and below 10^9, and not -1"),
@@ -111,7 +119,9 @@ class Solving(Case):
 
     def test_a_source_alone_is_no_list(self):
         for source in ("cube(1);", b"cube(1);", pathlib.Path("part.scad")):
-            with self.assertRaisesRegex(TypeError, r"^sources are a list of texts or paths, and not one alone: solve\(\[source\]\)$"):
+            with self.assertRaisesRegex(
+                TypeError, r"^sources are a list of texts or paths, and not one alone: solve\(\[source\]\)$"
+            ):
                 self.solve(source)
         with self.assertRaisesRegex(TypeError, "^source 2 is a text, bytes or a path, and not 3$"):
             self.solve(["cube(1);", 3])
@@ -153,7 +163,9 @@ class Solids(unittest.TestCase):
         self.assertEqual(set(ways.values()), {1})
         self.assertTrue(all(way[::-1] in ways for way in ways))
         six = sum(
-            p[i] * (q[(i + 1) % 3] * r[(i + 2) % 3] - q[(i + 2) % 3] * r[(i + 1) % 3]) for p, q, r in it.triangles for i in range(3)
+            p[i] * (
+                q[(i + 1) % 3] * r[(i + 2) % 3] - q[(i + 2) % 3] * r[(i + 1) % 3]
+            ) for p, q, r in it.triangles for i in range(3)
         )
         self.assertEqual(Fraction(six) / 6, it.volume)
         self.assertEqual(off(it.faces), it.text)
@@ -170,7 +182,7 @@ class Solids(unittest.TestCase):
         lines = it.mesh("obj", Fraction(1, 10), name="a part").decode().splitlines()
         self.assertEqual((lines[0], max(float(line.split()[1]) for line in lines if line.startswith("v "))), ("o a_part", 2))
         for how, kind, said in (
-            (("ply", 1), ValueError, "'ply' is no format: stl, binstl, off, obj, 3mf are"),
+            (("ply", 1), ValueError, "'ply' is not a format: stl, binstl, off, obj, 3mf are"),
             (("stl", 0), ValueError, "a unit is above 0 and below 10^9, and not 0"),
             (("stl", -1), ValueError, "a unit is above 0 and below 10^9, and not -1"),
             (("stl", 10**400), ValueError, "a unit is above 0 and below 10^9, and not a number of more than 30 digits"),

@@ -1,4 +1,5 @@
-"""The statement as HTML, in a browser: names are links, and comments, back links and the search are where they are looked for."""
+"""The statement as HTML, in a browser: names are links, and comments, back links and the search are where they are looked for.
+"""
 
 from __future__ import annotations
 

@@ -75,13 +75,17 @@ class Pairs(Case):
                 self.assert_whole(it)
                 self.assertEqual(len(self.shells(it)), 2)
                 for shell in self.shells(it):
-                    bounds = [(min(p[i] for p in self.points(it, shell)), max(p[i] for p in self.points(it, shell))) for i in range(3)]
+                    bounds = [
+                        (min(p[i] for p in self.points(it, shell)), max(p[i] for p in self.points(it, shell))) for i in range(3)
+                    ]
                     self.assertIn(bounds, ([(0, 1)] * 3, list(zip(low, high))))
 
     def test_boxes_round_one_edge_have_nodes_of_their_own(self):
         it = surface(UNIT_BOX + box((1, 1, 0), (2, 2, 1)))
         self.assertEqual((len(it.corners), len(it.places)), (14, 16))
-        self.assertEqual(sorted(it.corners[at][:3] for at in set(it.places) if it.places.count(at) == 2), [(1, 1, 0), (1, 1, 1)])
+        self.assertEqual(
+            sorted(it.corners[at][:3] for at in set(it.places) if it.places.count(at) == 2), [(1, 1, 0), (1, 1, 1)]
+        )
 
     def test_four_wedges_round_one_edge(self):
         # Eighths of a turn that are solid and empty by turns: each piece of solid is a prism of its own.

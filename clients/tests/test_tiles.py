@@ -2,28 +2,26 @@
 
 import os
 import signal
-import subprocess
-import sys
 import time
 import unittest
 from random import Random
 
 from scadserve.openscad.exact_hull import hull
 from scadserve.openscad.reader import CsgFault
-from scadserve.openscad.tree import DIFFERENCE, UNION, Join
+from scadserve.openscad.tree import DIFFERENCE, INTERSECTION, UNION, Join
 from scadserve.server.scripts import ServerFailed
 from scadserve.solid import fouroff, measures
 from scadserve.solid.surface import NotClosed
 from scadserve.solving import Solid, solve
 from scadserve.tiles.cutting import EMPTY, FULL, Limits, Near, Tile, halved, near_leaves, whole_box, whole_tree, within
-from scadserve.tiles.dividing import halves, pieces, sources
+from scadserve.tiles.dividing import halves
 from scadserve.tiles.gluing import NotOfTile, glued, part_of
 from scadserve.tiles.joined import text_of
 from scadserve.tiles.making import made
 from scadserve.tiles.shapes import _Shapes, leaf_pieces
 from scadserve.tiles.side_by_side import done
 from tests import chance
-from tests.calls import PROGRAM, TOP, needs_program
+from tests.calls import PROGRAM, needs_program
 
 SMALL = Limits(planes=60, facets=60, shapes=20)
 
@@ -75,11 +73,17 @@ class Cut(unittest.TestCase):
     def test_a_tile_without_a_free_place_has_no_wall(self):
         grid = Join(UNION, [chance.box((0, 0, 0), (it, it, it)) for it in (1, 2, 3)])
         tree = whole_tree(grid)
-        self.assertIsNone(halved(Tile((0, 0, 0, 4, 4, 4), within(tree, (0, 0, 0, 4, 4, 4)))))
+        whole = Tile((0, 0, 0, 4, 4, 4), within(tree, (0, 0, 0, 4, 4, 4)))
+        self.assertIsNone(halved(whole))
+        # (but for a half of the grid, at which no facet can stand)
+        self.assertEqual([(it.box, it.steps) for it in halves(whole)], [((0, 0, 0, 3, 8, 8), 2), ((3, 0, 0, 8, 8, 8), 2)])
+        # (what the boxes have in common ends at the one place between its walls)
+        box = (1, 1, 1, 3, 3, 3)
+        common = Tile(whole.box, whole_tree(Join(INTERSECTION, grid.parts))).with_half_steps()
         with self.assertRaises(CsgFault) as caught:
-            halves(Tile((0, 0, 0, 4, 4, 4), tree))
+            halves(Tile(box, within(common.tree, box), 2, True))
         self.assertEqual(caught.exception.word, "TooManyPlanes")
-        self.assertIn("between 0, 0, 0 and 4, 4, 4", caught.exception.said)
+        self.assertIn("between 1/2, 1/2, 1/2 and 3/2, 3/2, 3/2 of the grid", caught.exception.said)
 
 
 class Shapes(unittest.TestCase):
@@ -89,7 +93,7 @@ class Shapes(unittest.TestCase):
         near = within(whole_tree(body), box)
         if not isinstance(near, Near):
             return 0
-        points = _Shapes(box, Limits())._points(near)
+        points, _ = _Shapes(Tile(box, near), Limits())._points(near)
         found = hull(points)
         for _ in range(60):
             place = [rolled.randrange(2 * box[axis] + 1, 2 * box[axis + 3]) for axis in range(3)]
@@ -223,6 +227,11 @@ class WithTheProgram(unittest.TestCase):
         for seed in range(3):
             rolled = Random(seed)
             self.assert_same(chance.design(rolled, 150))
+
+    def test_walls_at_halves_of_the_grid(self):
+        # (steps of a stair at each place: no whole place is free, and all of it is too much for one tile)
+        stair = [chance.box((at, 0, 0), (1, 1 + at, 2 + at % 3)) for at in range(9)]
+        self.assertGreater(self.assert_same(Join(UNION, stair), Limits(planes=14, facets=30, shapes=4)), 2)
 
 
 if __name__ == "__main__":

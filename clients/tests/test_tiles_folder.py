@@ -93,8 +93,8 @@ class Folder(Case):
         changed["tiles"] = changed["tiles"][:1]
         for text, said in (
             (json.dumps(changed).encode(), "tiles/tiles.json: it isn't as csg2scad wrote it"),
-            (index[:-9], "tiles/tiles.json: it is no index of tiles"),
-            (b"[]\n", "tiles/tiles.json: it is no index of tiles"),
+            (index[:-9], "tiles/tiles.json: it is not an index of tiles"),
+            (b"[]\n", "tiles/tiles.json: it is not an index of tiles"),
         ):
             self.put("tiles.json", text)
             self.assert_fault(2, words, said)
@@ -193,7 +193,7 @@ class Ended(Calls):
             self.assertEqual((status, said), (2, f"scad2off: {word[0]} is for --by-openscad\n".encode()))
         status, _, said = self.call("--by-openscad", "--jobs", "0", "part.scad")
         self.assertEqual(status, 2)
-        self.assertIn(b"'0' is no number from 1 to 999", said)
+        self.assertIn(b"'0' is not a number from 1 to 999", said)
 
     def test_a_script_of_a_large_part_is_refused(self):
         status, out, said = self.call("--by-openscad", "--script", "part.scad", environment={"OPENSCAD": self.openscad})
@@ -213,9 +213,15 @@ class Bounds(unittest.TestCase):
         for text, said in (
             (f"group() {{\n sphere($fn = 1000000, {fine}, r = 20);\n}}", "2:2: TooManyCorners: sphere: it has 1000000 corners"),
             (f"sphere($fn = 2000, {fine}, r = 9);", "1:1: TooManyCorners: sphere: with it the curves of the design have 2"),
-            (f"linear_extrude(height = 4, twist = 9, slices = 100000000, $fn = 0, {fine}) {square}", "TooManyCorners: linear_extrude: it has 1"),
+            (
+                f"linear_extrude(height = 4, twist = 9, slices = 100000000, $fn = 0, {fine}) {square}",
+                "TooManyCorners: linear_extrude: it has 1",
+            ),
             (f"rotate_extrude(angle = 360, $fn = 200000, {fine}) {square}", "TooManyCorners: rotate_extrude"),
-            ("cube(size = [1, 1, 1], center = false);\n" * 101, "101:1: TooManyNodes: cube: the design has more than 100 nodes"),
+            (
+                "cube(size = [1, 1, 1], center = false);\n" * 101,
+                "101:1: TooManyNodes: cube: the design has more than 100 nodes",
+            ),
         ):
             began = time.process_time()
             # (reading as many nodes as there may be takes seconds)

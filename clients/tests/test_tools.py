@@ -101,7 +101,7 @@ class Completion(unittest.TestCase):
         return self.said(["bash", "--norc", "-c", script, "bash", *words])
 
     def in_zsh(self, name: str) -> list[str]:
-        """What zsh is told of a tool's words."""
+        """What zsh is told about a tool's words."""
         return self.said(["zsh", "-f", "-c", f'_arguments() {{ print -rl -- "$@" }}\n{completion.zsh(name)}'])
 
     def said(self, words: Sequence[str]) -> list[str]:

@@ -43,7 +43,9 @@ class Use(unittest.TestCase):
         with tempfile.TemporaryDirectory() as folder:
             how = {**os.environ, "PYTHONPATH": CLIENTS, "SCADSERVE": PROGRAM}
             words = [sys.executable, USE, os.path.join(folder, "part.scad")]
-            done = subprocess.run(words, cwd=folder, env=how, stdout=subprocess.PIPE, stderr=subprocess.PIPE, text=True, check=False)
+            done = subprocess.run(
+                words, cwd=folder, env=how, stdout=subprocess.PIPE, stderr=subprocess.PIPE, text=True, check=False
+            )
         self.assertEqual(done.returncode, 0, done.stderr)
         self.assertEqual(done.stdout, "6 3 [] True\n27 3 [] True\nNotWhole Solid\n")
         self.assertIn("NotWhole <source 2> 1 6", done.stderr)

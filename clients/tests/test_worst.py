@@ -23,7 +23,11 @@ printf '== a\\n1 ok 1\\n2 ok 2\\n%s solid 2\\n4OFF\\n0 0 0\\n' "$count"
 class Sources(unittest.TestCase):
     def test_small_ones_are_those_that_their_families_say(self):
         for name, number, source in (
-            ("children-idle", 1, "module m(n) { if (n > 0) m(n - 1) { children(); children(); children(); } else children(); } m(1);"),
+            (
+                "children-idle",
+                1,
+                "module m(n) { if (n > 0) m(n - 1) { children(); children(); children(); } else children(); } m(1);",
+            ),
             ("children-index", 2, "module m() { for (i = [0:$children - 1]) children(i); } m() { if (false) ; if (false) ; }"),
             ("block-entries", 2, "module b() { function f0() = 0; function f1() = 0; } for (i = [1:2]) b();"),
             ("block-empties", 3, "module b() { ; ; ; } for (i = [1:3]) b();"),
@@ -31,8 +35,12 @@ class Sources(unittest.TestCase):
             ("same-name", 2, "x=0; x=1;"),
             ("sum-called", 10, "function f() = 1 + 1 + 1 + 1 + 1 + 1 + 1 + 1 + 1 + 1; for (i = [1:1]) { a = f(); }"),
             ("named-args", 2, "module m(p0, p1) {} for (i = [1:2]) m(p0=0, p1=0);"),
-            ("grid-holes", 2, "difference() { cube([4000, 4000, 1]); for (i = [0:1], j = [0:1]) translate([9 * i + 2, 9 * j + 2, -1])"
-             " cube([4, 4, 3]); }"),
+            (
+                "grid-holes",
+                2,
+                "difference() { cube([4000, 4000, 1]); for (i = [0:1], j = [0:1]) translate([9 * i + 2, 9 * j + 2, -1])"
+                " cube([4, 4, 3]); }",
+            ),
         ):  # fmt: skip
             self.assertEqual(worst.FAMILIES[name].source(number), source)
 

@@ -54,14 +54,18 @@ class WrongBodies(Calls):
         self.assertEqual((error, os.listdir(self.log)), (b"", []))
         for it in os.listdir(f"{self.top}/crates"):
             self.assertNotIn("must-fail", os.listdir(f"{self.top}/crates/{it}"))
-        lines = self.read("top/wrong-bodies/TRIED").decode().splitlines() if os.path.exists(self.path("top/wrong-bodies/TRIED")) else []
+        lines = self.read("top/wrong-bodies/TRIED").decode().splitlines() if os.path.exists(
+            self.path("top/wrong-bodies/TRIED")
+        ) else []
         for it in lines:
             self.assertRegex(it, r"^[a-z]+ \d+ of \d+ \d{4}-\d\d-\d\d [0-9a-f]{16}$")
         return status, out.decode().splitlines(), [it[:-28] for it in lines]
 
     def test_each_crate_is_checked_and_tried_and_has_a_line_in_order(self):
         status, said, record = self.tried("other", "one")
-        self.assertEqual((status, said), (0, ["other: 1 of 1 refused", "one: 2 of 2 refused", "3 of 3 wrong bodies were refused"]))
+        self.assertEqual(
+            (status, said), (0, ["other: 1 of 1 refused", "one: 2 of 2 refused", "3 of 3 wrong bodies were refused"])
+        )
         self.assertEqual(record, ["one 2 of 2", "other 1 of 1"])
         asked = self.read("rt.log").decode().splitlines()
         self.assertEqual(asked[:2], [f"{self.top}/crates/other check", f"{self.top} must-fail other"])

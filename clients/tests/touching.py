@@ -1,4 +1,5 @@
-"""Solids for tests that touch themselves at edges and corners: chess boards, and tetrahedra of a grid put together by chance."""
+"""Solids for tests that touch themselves at edges and corners: chess boards, and tetrahedra of a grid put together by chance.
+"""
 
 from itertools import combinations, product
 
@@ -89,7 +90,7 @@ def source_of(solid):
 
 
 def pieces(solid, common):
-    """How many pieces tetrahedra make, of which those hang together that have so many corners in common."""
+    """How many pieces tetrahedra make, of which those hang together that have this many corners in common."""
     above = list(range(len(solid)))
 
     def root(at):

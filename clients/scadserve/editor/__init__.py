@@ -1,1 +1,1 @@
-"""The language server: its protocol, the open texts, and what an editor is told of them."""
+"""The language server: its protocol, the open texts, and what an editor is told about them."""

@@ -114,7 +114,7 @@ def _stamp(view: View) -> list[tuple[str, int]]:
 
 
 def hover(asked: Asked) -> Any:
-    """What is told of the name at a place."""
+    """What is said about the name at a place."""
     view = asked.view()
     at = asked.token(view)
     said = telling_names.hover(view, at) if at is not None else None

@@ -88,7 +88,7 @@ def _plain(said: str) -> str:
 
 
 def about(name: str, kind: str | None = None) -> str | None:
-    """What is told of a built-in name, in Markdown; None where it is none."""
+    """What is said about a built-in name, in Markdown; None where it is none."""
     if name not in ALL:
         return None
     found = entries().get(name, [])

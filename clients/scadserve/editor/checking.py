@@ -26,7 +26,7 @@ from ..source.structure import MODULE
 from ..source.telling import Message, limit_message, refused_message, reply_message
 from ..source.tokens import tokens
 
-#: So many texts are exported at once.
+#: This many texts are exported at once.
 MOST_RUNS = 4
 # (a server that is slow is not asked again which call led to a fault)
 _QUICK = 1.0
@@ -65,10 +65,10 @@ class _Check:
 
     uri: str
     lock: threading.Lock = field(default_factory=threading.Lock)
-    process: "subprocess.Popen[bytes] | None" = None
+    process: subprocess.Popen[bytes] | None = None
     is_ended: bool = False
 
-    def take(self, process: "subprocess.Popen[bytes]") -> None:
+    def take(self, process: subprocess.Popen[bytes]) -> None:
         """Takes the process that is waited for now."""
         with self.lock:
             self.process = process
@@ -105,7 +105,7 @@ class Checks:
         threading.Thread(target=self._go, args=(check, source), daemon=True).start()
 
     def end(self, uri: str) -> None:
-        """Ends the check of a text: nothing is told of it."""
+        """Ends the check of a text: nothing is said about it."""
         check = self._under_way.pop(uri, None)
         if check is not None:
             check.end()
@@ -161,7 +161,7 @@ class Checks:
     def _why(self, failed: Exception) -> str:
         if isinstance(failed, ServerFailed):
             return f"{failed}{STATUSES.get(failed.status, '')}"
-        return f"the server's output is no answer: {failed}"
+        return f"the server's output is not an answer: {failed}"
 
 
 def _shows_anything(source: Source) -> bool:

@@ -20,7 +20,7 @@ CONSTANTS = ("true", "false", "undef")
 
 @dataclass(frozen=True)
 class Item:
-    """A word that can stand at a place, what it is, how that is written, and what is told of it in Markdown."""
+    """A word that can stand at a place, what it is, how that is written, and what is said about it in Markdown."""
 
     word: str
     kind: str
@@ -178,4 +178,7 @@ class _Place:
         else:
             words = ("module", "function", "if", "else", "for", "intersection_for", "include", "use")
             names = [*((it, MODULE) for it in sorted(built_in.MODULES)), *((it, "keyword") for it in words)]
-        return [Item(name, kind, "built in" if kind in (MODULE, FUNCTION) else "", built_in.about(name, kind)) for name, kind in names]
+        return [
+        Item(name, kind, "built in" if kind in (MODULE, FUNCTION) else "", built_in.about(name, kind))
+        for name, kind in names
+    ]

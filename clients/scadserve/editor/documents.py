@@ -110,7 +110,7 @@ class Documents:
 
 
 def path_of(uri: str) -> str:
-    """The path of a file that an editor names; of what is no file one in the folder that the server runs in."""
+    """The path of a file that an editor names; of what is not a file one in the folder that the server runs in."""
     parts = urlsplit(uri)
     if parts.scheme == "file":
         return os.fsdecode(unquote_to_bytes(parts.path))

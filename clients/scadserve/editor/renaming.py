@@ -46,7 +46,7 @@ def test_name(view: View, at: int) -> None:
 def test_new_name(new: str, kind: str) -> None:
     """Raises Failed where a name can't be given to things of this kind."""
     if not _NAME.fullmatch(new):
-        raise refused(f"{new!r} is no name: names have letters, digits and _, and begin with no digit")
+        raise refused(f"{new!r} is not a name: names have letters, digits and _, and begin with no digit")
     if new in built_in.KEYWORDS:
         raise refused(f"{new} is a word of the language")
     if kind != VARIABLE and new in built_in.ALL:
@@ -78,7 +78,9 @@ class Renaming:
         after = {it for of in self._views({**texts, **changed}) for it in of.uses({old, new.encode()})}
         moved = _Moved(places, len(new.encode()) - len(old))
         if after != {(moved.place(a), moved.place(b)) for a, b in before}:
-            raise refused(f"{new} has a meaning of its own where {old.decode()} stands, or {old.decode()} has one where {new} does")
+            raise refused(
+                f"{new} has a meaning of its own where {old.decode()} stands, or {old.decode()} has one where {new} does"
+            )
         return self._spans(places, old)
 
     def places(self, view: View, at: int) -> set[Place]:
@@ -96,7 +98,7 @@ class Renaming:
                 continue
 
     def _test_places(self, places: set[Place], views: list[View]) -> None:
-        """Raises Failed where a file can't be changed, or is no program, so that its names are not sure."""
+        """Raises Failed where a file can't be changed, or is not a program, so that its names are not sure."""
         paths = {it.path for it in places}
         roots = self._documents.own_roots(self._path)
         for path in sorted(paths):
@@ -107,7 +109,7 @@ class Renaming:
         for view in views:
             if view.fault is not None and view.paths & paths:
                 line = f"{os.path.basename(view.fault.path)}:{view.fault.line}:{view.fault.column}"
-                raise refused(f"{line} is no program yet: mend that first, since what its names mean is not sure")
+                raise refused(f"{line} is not a program yet: mend that first, since what its names mean is not sure")
 
     def _spans(self, places: set[Place], old: bytes) -> dict[str, list[Edit]]:
         found: dict[str, list[Edit]] = {}
@@ -146,7 +148,7 @@ def _tied(uses: set[tuple[Place, Place]], start: Place) -> set[Place]:
 
 
 class _Moved:
-    """Where names stand once those at some places are longer by so many bytes."""
+    """Where names stand once those at some places are longer by this many bytes."""
 
     def __init__(self, places: set[Place], longer: int) -> None:
         self._longer = longer

@@ -60,7 +60,7 @@ def _range(text: Text, spot: Spot | None) -> dict[str, Any]:
 
 
 def _related(documents: Documents, spot: Spot, what: str) -> dict[str, Any] | None:
-    """A note at its place; None where that is no file, or can't be read."""
+    """A note at its place; None where that is not a file, or can't be read."""
     if spot.file.startswith("-D "):
         return None
     try:

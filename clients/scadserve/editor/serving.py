@@ -17,14 +17,14 @@ from ..source.joining import File
 from ..source.reading import joined_source
 from ..source.sources import Source
 from ..version import VERSION
-from . import answers, framing
-from .checking import Checked, Checks, Notes, notes
+from . import answers, checking, framing
+from .checking import Checked, Checks, Notes
 from .documents import Document, Documents, OpenFolders, path_of
 from .framing import Failed
 from .reporting import diagnostics
 from .texts import Text, encoded
 
-#: After so many seconds without a change a text is checked.
+#: After this many seconds without a change a text is checked.
 PAUSE = 0.15
 
 
@@ -36,7 +36,7 @@ class Settings:
     half: bool = False
     seconds: float = 10.0
     folders: Sequence[str] = ()
-    notes: Notes = notes
+    notes: Notes = checking.notes
 
 
 @dataclass
@@ -59,7 +59,7 @@ class Serving:
 
     def __init__(self, source: BinaryIO, sink: BinaryIO, settings: Settings) -> None:
         self._source, self._sink, self._settings = source, sink, settings
-        self._events: "queue.Queue[Any]" = queue.Queue()
+        self._events: queue.Queue[Any] = queue.Queue()
         self._documents = Documents(settings.folders)
         self._checks = Checks(settings.server, settings.half, settings.seconds, self._events.put, settings.notes)
         self._state = _State()
@@ -192,7 +192,9 @@ class Serving:
         capabilities = params.get("capabilities")
         self._state.capabilities = capabilities if isinstance(capabilities, dict) else {}
         folders = params.get("workspaceFolders")
-        named = [it.get("uri") for it in folders if isinstance(it, dict)] if isinstance(folders, list) else [params.get("rootUri")]
+        named = [
+            it.get("uri") for it in folders if isinstance(it, dict)
+        ] if isinstance(folders, list) else [params.get("rootUri")]
         self._documents.roots = [path_of(it) for it in named if isinstance(it, str)]
         return {"capabilities": answers.CAPABILITIES, "serverInfo": {"name": "scadls", "version": VERSION}}
 
@@ -257,7 +259,8 @@ class Serving:
         self._documents.roots += [path_of(answers.wanted(it, str, "uri")) for it in added]
 
     def _is_new(self, uri: str) -> None:
-        """A text is another one now: the old check of it ends at once, and it and all that read it are checked after a pause."""
+        """A text is another one now: the old check of it ends at once, and it and all that read it are checked after a pause.
+        """
         self._checks.end(uri)
         real = self._documents.open[uri].real
         self._is_due([uri, *(it for it, read in self._read.items() if real in read and it != uri)])

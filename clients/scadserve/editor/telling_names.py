@@ -1,4 +1,4 @@
-"""What is told of a name where an editor asks: of the source's own its definition, of others what is built in."""
+"""What is said about a name where an editor asks: of the source's own its definition, of others what is built in."""
 
 from __future__ import annotations
 
@@ -6,7 +6,7 @@ import os
 import re
 
 from ..source.faults import printable
-from ..source.structure import ARGUMENT, FUNCTION, MODULE, VARIABLE
+from ..source.structure import ARGUMENT, FUNCTION, VARIABLE
 from . import built_in
 from .views import Meaning, View
 
@@ -14,7 +14,7 @@ MOST_LINES, MOST_BYTES = 12, 400
 
 
 def hover(view: View, at: int) -> str | None:
-    """What is told of the name at a token of the file of a view, in Markdown; None where nothing is known of it."""
+    """What is said about the name at a token of the file of a view, in Markdown; None where nothing is known of it."""
     found = view.main.structure
     meanings = view.meanings(view.main, at)
     if meanings:
@@ -41,7 +41,9 @@ def told(view: View, meaning: Meaning) -> str:
     place = view.place(meaning.of, at)
     where = "" if place.path == os.path.realpath(view.file.path) else f"{os.path.basename(place.path)}, "
     first = definition.first if definition is not None else at
-    blocks = [f"```openscad\n{shown}\n```", comment_above(view, meaning, first), f"{_kind(meaning, at)}, {where}line {place.line}"]
+    blocks = [
+        f"```openscad\n{shown}\n```", comment_above(view, meaning, first), f"{_kind(meaning, at)}, {where}line {place.line}"
+    ]
     return "\n\n".join(it for it in blocks if it)
 
 

@@ -89,7 +89,7 @@ def _units(text: bytes) -> int:
 
 
 def _bytes_of(text: bytes, units: int) -> int:
-    """How many bytes of a line so many units of UTF-16 have; what is half a character counts for none."""
+    """How many bytes of a line this many units of UTF-16 have; what is half a character counts for none."""
     if text.isascii():
         return min(units, len(text))
     all_units = _decoded(text).encode("utf-16-le", "surrogatepass")

@@ -40,7 +40,7 @@ class View:
     """A file with all that it includes and uses, read as far as that can be done."""
 
     def __init__(self, folders: OpenFolders, file: File) -> None:
-        #: The first place at which one of its files is no program.
+        #: The first place at which one of its files is not a program.
         self.fault: Place | None = None
         self.file = file
         self._names: dict[int, Names] = {}

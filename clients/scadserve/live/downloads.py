@@ -5,13 +5,13 @@ from __future__ import annotations
 from fractions import Fraction
 from typing import Callable
 
+from ..calls import off2tool
+from ..calls.exporting import Lengths, export
+from ..calls.off2tool import BadSolid
 from ..ending import BadCall
 from ..solid import closing, fouroff
 from ..solid.formats import WRITERS
-from ..source.units import MILLIMETRE
-from ..tools import off2tool
-from ..tools.exporting import Lengths, export
-from ..tools.off2tool import BadSolid
+from ..source.lengths import MILLIMETRE
 from ..view.drawing import VIEW, Camera, drawing
 from ..view.page import Shown, page
 from .solving import NotSolved, Solved, Told, empty_told
@@ -35,7 +35,7 @@ def _text(_: str, solved: Solved, __: Fraction | None) -> bytes:
     return solved.text
 
 
-def _mesh(form: str) -> Callable[[str, Solved, "Fraction | None"], bytes]:
+def _mesh(form: str) -> Callable[[str, Solved, Fraction | None], bytes]:
     def write(name: str, solved: Solved, unit: Fraction | None) -> bytes:
         mesh, _ = export(name, fouroff.read(solved.text), Lengths(unit or MILLIMETRE, solved.step), form)
         return WRITERS[form](mesh)
@@ -57,7 +57,7 @@ def _page(name: str, solved: Solved, unit: Fraction | None) -> bytes:
 
 
 #: How a file is made in each format: of the name of the source, the solid, and how many millimetres a unit is.
-_WRITERS: dict[str, Callable[[str, Solved, "Fraction | None"], bytes]] = {
+_WRITERS: dict[str, Callable[[str, Solved, Fraction | None], bytes]] = {
     "4off": _text,
     **{it: _mesh(it) for it in WRITERS},
     "svg": _drawing,

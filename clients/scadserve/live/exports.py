@@ -4,7 +4,7 @@
     source, reply = exports.reply("tab 1", source, half=False)
 
 A newer text of a client takes the place of the one that waits. A run is ended when its time is over: a shared one after a part
-of the seconds that one alone has, since what it left is then tried one by one. Only so many of these go on at once that a job
+of the seconds that one alone has, since what it left is then tried one by one. Only this many of these go on at once that a job
 is left for the others, and a client whose text took all of its seconds is tried alone until one of its texts is answered
 early. So a costly text keeps no other client waiting for longer than the time of a shared run.
 """
@@ -22,13 +22,14 @@ from dataclasses import dataclass, field
 from time import monotonic
 from typing import Any, Callable, Sequence
 
+from ..server.processes import begin, end_begun
 from ..server.scripts import CLIENTS, Malformed, Reply, ServerFailed
 from ..source.answering import answered
 from ..source.sources import Source
 
 #: A run that several clients share has so much of the seconds of one alone.
 SHARED_PART = 0.25
-# Of so many clients it is kept at most that their last text was costly.
+# Of this many clients it is kept at most that their last text was costly.
 _MOST_COSTLY = 1_024
 
 
@@ -80,7 +81,7 @@ class _Waiting:
     half: bool
     work: Work | None = None
     is_alone: bool = False
-    answer: "Future[Any]" = field(default_factory=Future)
+    answer: Future[Any] = field(default_factory=Future)
 
 
 @dataclass(eq=False)
@@ -111,12 +112,15 @@ class Exports:
 
         Raises Replaced, Closed, and what `run` of `server` raises.
         """
-        found: tuple[Source, Reply] = self._answer(_Waiting(self._name(client), source, half))
-        return found
+        return self.ask(client, source, half)()
+
+    def ask(self, client: str | None, source: Source, half: bool) -> Callable[[], tuple[Source, Reply]]:
+        """The same at once: what is given waits for the answer."""
+        return self._asked(_Waiting(self._name(client), source, half)).result
 
     def alone(self, client: str | None, work: Work) -> Any:
         """What comes of work that no run is shared with. Raises Replaced, Closed, and what it raises."""
-        return self._answer(_Waiting(self._name(client), None, False, work, True))
+        return self._asked(_Waiting(self._name(client), None, False, work, True)).result()
 
     def close(self) -> None:
         """Ends all runs and all threads, and answers nothing any more."""
@@ -128,11 +132,12 @@ class Exports:
             for run in self._under_way:
                 run.process.end()
             self._changed.notify_all()
+        end_begun(self._server)
 
     def _name(self, client: str | None) -> str:
         return f"\0{next(self._numbers)}" if client is None else client
 
-    def _answer(self, item: _Waiting) -> Any:
+    def _asked(self, item: _Waiting) -> Future[Any]:
         with self._changed:
             if self._is_closed:
                 raise Closed()
@@ -143,7 +148,7 @@ class Exports:
                 if run.is_alone and run.items[0].client == item.client:
                     _fail(run.items[0], Replaced())
                     run.process.end()
-        return item.answer.result()
+        return item.answer
 
     def _put(self, item: _Waiting) -> None:
         """Has an item wait, at the place of the one that it replaces."""
@@ -154,10 +159,18 @@ class Exports:
         self._changed.notify_all()
 
     def _go_on(self) -> None:
-        while (run := self._next_run()) is not None:
+        half = False
+        while True:
+            # (the next run finds a server that has started)
+            begin(self._server, ["--half"] * half)
+            run = self._next_run()
+            if run is None:
+                end_begun(self._server)
+                return
+            half = run.items[0].half
             try:
                 self._try(run)
-            except BaseException as error:  # (whoever waits is told, whatever it was)
+            except BaseException as error:  # (each waiter is told, whatever it was)
                 for item in run.items:
                     _fail(item, error)
             with self._changed:

@@ -15,7 +15,7 @@ from ..files import read_file, write_file
 ENDING = ".scad"
 #: A source that is larger is none that the server would take.
 MOST_BYTES = 1_048_576
-# So many files are listed, from folders so deep in one another.
+# This many files are listed, from folders so deep in one another.
 _MOST_FILES, _MOST_DEEP = 1_000, 6
 
 

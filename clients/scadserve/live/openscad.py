@@ -19,10 +19,11 @@ from time import monotonic
 from typing import NamedTuple, Sequence
 
 from ..ending import PART_FAULT, ended
-from ..server.scripts import OutOfTime, ServerFailed, Solid, server_of_environment
+from ..server.processes import server_of_environment
+from ..server.scripts import OutOfTime, ServerFailed, Solid
 from ..source.joining import MOST_BYTES
 from ..source.sources import Refused, Source, Spot
-from ..source.units import MILLIMETRE
+from ..source.lengths import MILLIMETRE
 from .exports import Process
 
 # The folder in which the package stands.
@@ -102,8 +103,10 @@ def test_reads(text: bytes, file: str, roots: Sequence[str], libraries: Sequence
         for match in _NAMES_FILE.finditer(data):
             found = _file_of(os.fsdecode(match[1]), name, roots, libraries)
             if found is None or len(seen) > _MOST_FILES:
-                said = f"{os.fsdecode(match[1])} is no file that may be read here"
-                raise _refused(name, data, match.start(), "NoFile", said, "it stands in the folder that is served, or in one of -I")
+                said = f"{os.fsdecode(match[1])} is not a file that may be read here"
+                raise _refused(
+                    name, data, match.start(), "NoFile", said, "it stands in the folder that is served, or in one of -I"
+                )
             if found and os.path.realpath(found) not in seen:
                 seen.add(os.path.realpath(found))
                 with open(found, "rb") as it:
@@ -111,7 +114,8 @@ def test_reads(text: bytes, file: str, roots: Sequence[str], libraries: Sequence
 
 
 def _file_of(named: str, file: str, roots: Sequence[str], libraries: Sequence[str]) -> str | None:
-    """The file that is named so in a file; empty where only OpenSCAD's own libraries may have it, and None where it may not be."""
+    """The file that is named so in a file; empty where only OpenSCAD's own libraries may have it, and None where it may not be.
+    """
     if os.path.isabs(named) or "\0" in named or any(it in ("..", "~") for it in named.split("/")):
         return None
     for path in (os.path.join(it, named) for it in (os.path.dirname(file), *libraries)):
@@ -128,11 +132,13 @@ def _refused(file: str, data: bytes, at: int, word: str, said: str, cure: str) -
 
 
 def main(words: Sequence[str]) -> int:
-    """Writes the step, the unit if there is one, and the 4OFF text that come of a file. The words are its name, how many folders, these, and definitions."""
+    """Writes the step, the unit if there is one, and the 4OFF text that come of a file. The words are its name, how many
+    folders, these, and definitions."""
     # (which a page that never asks for it isn't to wait for)
-    from ..openscad.by_openscad import Reader
+    from ..calls.by_openscad import Reader
     from ..openscad.conversion import Wanted
-    from ..tools.converting import Call, convert, told
+    from ..calls.asking import told
+    from ..calls.converting import Call, convert
 
     name, count, *rest = words
     folders, definitions = rest[: int(count)], rest[int(count) :]
@@ -152,7 +158,7 @@ def main(words: Sequence[str]) -> int:
 
 
 def _written(source: Source, out: str, solid: Solid) -> int:
-    from ..tools.words import write_out
+    from ..calls.words import write_out
 
     lengths = [source.step, *([source.unit] if source.unit else [])]
     write_out(out, " ".join(map(str, lengths)).encode() + b"\n" + solid.text)

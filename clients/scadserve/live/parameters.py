@@ -5,10 +5,9 @@
     width = 20; // [10:5:40]
     kind = "plate"; // [plate, rod:a rod]
 
-A comment behind a value says its range (`[10]`, `[1:10]`, `[1:2:9]`), its choices (`[4, 6, 8]`, `[4:four, 6:six]`), its step or the
-most letters of a text (`2`). One on the line above says what it is, and `/* [Name] */` begins a section; what stands in a
-section `Hidden` is no parameter.
-"""
+A comment behind a value says its range (`[10]`, `[1:10]`, `[1:2:9]`), its choices (`[4, 6, 8]`, `[4:four, 6:six]`), its step or
+the most letters of a text (`2`). One on the line above says what it is, and `/* [Name] */` begins a section; what stands in a
+section `Hidden` is not a parameter. """
 
 from __future__ import annotations
 
@@ -56,7 +55,7 @@ class Parameter:
     choices: list[Choice] = field(default_factory=list)
 
     def as_json(self) -> dict[str, object]:
-        """What the page is told of it."""
+        """What the page is told about it."""
         return {**asdict(self), "choices": [it._asdict() for it in self.choices]}
 
 
@@ -68,37 +67,39 @@ class _Piece(NamedTuple):
 
 def parameters(data: bytes) -> list[Parameter]:
     """The parameters of a source, in order; of a name with several assignments, the last one with a plain value."""
-    pieces = [
-        _Piece(it.start(), it[0], it.lastgroup != "symbol" and it[0].startswith((b"//", b"/*")))
-        for it in PIECE.finditer(_head(data))
-        if it[0].strip()
-    ]
+    pieces = _head(data)
     found: dict[str, Parameter] = {}
     section = ""
+    before = b";"
     for at, piece in enumerate(pieces):
-        named = _SECTION.fullmatch(piece.text) if piece.is_comment else None
-        if named:
-            section = named[1].decode("utf-8", "replace")
-        parameter = _parameter(data, pieces, at) if section.lower() != HIDDEN else None
+        if piece.is_comment:
+            named = _SECTION.fullmatch(piece.text)
+            section = named[1].decode("utf-8", "replace") if named else section
+            continue
+        parameter = _parameter(data, pieces, at) if before == b";" and section.lower() != HIDDEN else None
+        before = piece.text
         if parameter is not None:
             parameter.section = section
             found[parameter.name] = parameter
     return list(found.values())
 
 
-def _head(data: bytes) -> bytes:
-    """What stands above the line with the first `{`."""
-    for piece in PIECE.finditer(data):
-        if piece[0] == b"{":
-            return data[: data.rfind(b"\n", 0, piece.start()) + 1]
-    return data
+def _head(data: bytes) -> list[_Piece]:
+    """The pieces above the line with the first `{`."""
+    pieces: list[_Piece] = []
+    for it in PIECE.finditer(data):
+        if it[0] == b"{":
+            line = data.rfind(b"\n", 0, it.start()) + 1
+            return [piece for piece in pieces if piece.start < line]
+        if it.lastgroup != "gap" or not it[0].isspace():
+            pieces.append(_Piece(it.start(), it[0], it.lastgroup in ("gap", "open")))
+    return pieces
 
 
 def _parameter(data: bytes, pieces: Sequence[_Piece], at: int) -> Parameter | None:
-    """The parameter whose name is a piece; None where that is none."""
+    """The parameter whose name is a piece that begins a statement; None where that is none."""
     code = [it for it in pieces[at : at + 40] if not it.is_comment]
-    before = next((it for it in reversed(pieces[:at]) if not it.is_comment), None)
-    if (before is not None and before.text != b";") or len(code) < 4 or code[0] is not pieces[at] or code[1].text != b"=":
+    if len(code) < 4 or code[1].text != b"=":
         return None
     if not re.fullmatch(rb"\$?[A-Za-z_][A-Za-z0-9_]*", code[0].text):
         return None

@@ -2,7 +2,7 @@
 
 A request is answered where it comes from a page of this server or from a program: its `Host` is one that this server has, an
 `Origin` is that of its own pages, and where a token is set, it has that. A request is read until its time is over, in no more
-bytes than a source may have, and written until another time is over; so many connections are served at once.
+bytes than a source may have, and written until another time is over; this many connections are served at once.
 """
 
 from __future__ import annotations
@@ -27,10 +27,10 @@ from time import monotonic
 from typing import Any, Callable, Mapping
 from urllib.parse import parse_qsl, quote, unquote_to_bytes
 
+from ..calls.words import definition
 from ..files import reason, say
 from ..openscad.front import program
-from ..source.units import unit_argument
-from ..tools.words import definition
+from ..source.lengths import unit_argument
 from ..version import VERSION
 from .exports import Closed, Replaced
 from .folder import MOST_BYTES, Folder, NoSuchFile, mark_of
@@ -81,7 +81,7 @@ _LENGTH = re.compile(r"[0-9]{1,12}")
 _MOST_DEFINITIONS = 200
 # Seconds in which a request is read, and an answer written, and between two signs of life on a stream of events.
 _READ, _WRITE, _HEARTBEAT = 15.0, 30.0, 10.0
-# So many connections are served at once, and so many streams of events.
+# This many connections are served at once, and this many streams of events.
 _MOST_CONNECTIONS, _MOST_STREAMS = 256, 96
 _JSON = "application/json"
 
@@ -367,7 +367,9 @@ class Handler(BaseHTTPRequestHandler):
             is_known = mark is not None and wanted in ((f'"{mark}"', None), ("*", None))
             is_wanted = mark is None if wanted == (None, "*") else is_known
             if wanted == (None, None):
-                raise Refusal(HTTPStatus.PRECONDITION_REQUIRED, "If-Match says which text is replaced, or If-None-Match: * a new one")
+                raise Refusal(
+                    HTTPStatus.PRECONDITION_REQUIRED, "If-Match says which text is replaced, or If-None-Match: * a new one"
+                )
             if not is_wanted:
                 raise Refusal(HTTPStatus.PRECONDITION_FAILED, "the file has another text now", **{"ETag": f'"{mark or ""}"'})
             self.site.folder.write(name, data)
@@ -407,7 +409,9 @@ class Handler(BaseHTTPRequestHandler):
                 scale = solved.scale()
                 unit_said = str(scale) if scale else None
                 notes = [it.as_json() for it in solved.notes]
-                answer: dict[str, object] = {"solid": solved.text.decode(), "unit": unit_said, "notes": notes, "parameters": found}
+                answer: dict[str, object] = {
+                    "solid": solved.text.decode(), "unit": unit_said, "notes": notes, "parameters": found
+                }
                 answer["milliseconds"] = _since(began)
                 self._send_json(answer)
                 return
@@ -492,7 +496,7 @@ class Handler(BaseHTTPRequestHandler):
         return True
 
     def send_error(self, code: int, message: str | None = None, explain: str | None = None) -> None:
-        """What is no request at all is told so in plain words, which have nothing of it."""
+        """What is not a request at all is told so in plain words, which have nothing of it."""
         self.close_connection = True
         self.request_version = self.protocol_version
         self._send(HTTPStatus(code), "text/plain; charset=utf-8", f"{HTTPStatus(code).phrase}\n".encode())
@@ -501,7 +505,12 @@ class Handler(BaseHTTPRequestHandler):
         self._send(status, _JSON, json.dumps(value, separators=(",", ":")).encode() + b"\n")
 
     def _send(
-        self, status: HTTPStatus, media: str, data: bytes, headers: "Mapping[str, str] | None" = None, safe: Mapping[str, str] = _SAFE
+        self,
+        status: HTTPStatus,
+        media: str,
+        data: bytes,
+        headers: Mapping[str, str] | None = None,
+        safe: Mapping[str, str] = _SAFE,
     ) -> None:
         headers = dict(headers or {})
         if status != HTTPStatus.NO_CONTENT:

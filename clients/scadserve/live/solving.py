@@ -13,14 +13,17 @@ from fractions import Fraction
 from time import monotonic
 from typing import Callable, NamedTuple, Sequence
 
-from ..server.replies import Fault, Malformed, NoMemory, Reply, Solid
+from ..server.failures import Malformed
+from ..server.replies import NoMemory, Reply, Solid
 from ..server.scripts import OutOfMemory, OutOfTime, ServerFailed, passed_limit
 from ..source.faults import NO_MEMORY, STATUSES, TOKEN
 from ..source.joining import folders_of_environment
+from ..source.lengths import MILLIMETRE
+from ..source.notes import placed_notes
 from ..source.reading import source_within, unused
 from ..source.sources import Refused, Source, Spot
-from ..source.telling import limit_told, refused_told, reply_told
-from ..source.units import MILLIMETRE, unit_of
+from ..source.telling import Message, limit_message, refused_message, reply_message
+from ..source.units import unit_of
 from . import openscad
 from .exports import Exports
 from .folder import Folder
@@ -44,21 +47,25 @@ class Request:
 
 
 class Note(NamedTuple):
-    """Something that is told of a source beside its solid or its fault. It stands at a place, or tells of all of the source."""
+    """Something that is said about a source beside its solid or its fault. It stands at a place, as a fault does, or is about
+    the whole source."""
 
     message: str
     file: str | None = None
     line: int | None = None
     column: int | None = None
+    start: int | None = None
+    end: int | None = None
 
     def as_json(self) -> dict[str, object]:
-        """What a client is told of it."""
+        """What a client is told about it."""
         return self._asdict()
 
 
 @dataclass(frozen=True)
 class Told:
-    """A fault as a client is told it. The line and its byte count from 1, and what the browser marks, in its own units, from 0."""
+    """A fault as a client is told it. The line and its byte count from 1, and what the browser marks, in its own units, from 0.
+    """
 
     word: str
     message: str
@@ -72,7 +79,7 @@ class Told:
     end: int | None = None
 
     def as_json(self) -> dict[str, object]:
-        """What a client is told of it."""
+        """What a client is told about it."""
         return dict(vars(self))
 
 
@@ -119,7 +126,7 @@ class Solver:
         try:
             return work()
         except Refused as refused:
-            raise NotSolved([told_of(refused_told(refused), refused.word, refused.spot)]) from None
+            raise NotSolved([told_of(refused_message(refused))]) from None
         except OutOfTime:
             raise self._failure(request, "OutOfTime", f"{self._seconds:g}", *_TOO_LONG) from None
         except OutOfMemory:
@@ -138,21 +145,21 @@ class Solver:
         source = source_within(request.text, request.file, request.definitions, self.libraries, self.roots)
         limit = passed_limit(source.sent())
         if limit:
-            raise NotSolved([told_of(limit_told(source, limit), limit.word, source.spot(limit.line, limit.column))])
-        found, reply = self.exports.reply(request.client, source, request.half)
+            raise NotSolved([told_of(limit_message(source, limit))])
+        answer = self.exports.ask(request.client, source, request.half)
+        # (looked for while the server is at work)
+        differences = [_note_at(it.message(), spot) for it, spot in placed_notes(source)]
+        found, reply = answer()
         notes = [Note(f"the source never has {it}, which is assigned behind it", request.file) for it in unused(source)]
         if not isinstance(reply, Solid):
             raise self._not_solved(found, reply, request.half, notes)
         unit, about_unit = _unit(source)
-        return Solved(reply.text, unit, [*notes, *about_unit])
+        return Solved(reply.text, unit, [*notes, *about_unit, *differences])
 
     def _not_solved(self, source: Source, reply: Reply, half: bool, notes: Sequence[Note]) -> NotSolved:
         with self._asking:
-            told = reply_told(source, reply, half, self._server, monotonic() + self._seconds)
-        if isinstance(reply, Fault):
-            return NotSolved([told_of(told, reply.word, source.spot(reply.line, reply.column))], True, notes)
-        word, _, _ = told.partition("error: ")[2].partition(": ")
-        return NotSolved([told_of(told, word, None, source.name)], not isinstance(reply, NoMemory), notes)
+            message = reply_message(source, reply, half, self._server, monotonic() + self._seconds)
+        return NotSolved([told_of(message)], not isinstance(reply, NoMemory), notes)
 
     def _by_openscad(self, request: Request) -> Solved:
         openscad.test_reads(request.text, request.file, self.roots, [*self.libraries, *folders_of_environment()])
@@ -160,18 +167,13 @@ class Solver:
         found: openscad.Evaluated = self.exports.alone(request.client, work)
         notes = [Note(it) for it in found.said if it.strip()]
         if found.text is None:
-            raise NotSolved([told_of(found.fault, _word(found.fault), None, request.file)], True, notes)
+            raise NotSolved([_printed(found.fault, request.file)], True, notes)
         return Solved(found.text, found.unit, notes, found.step)
 
 
 def empty_told(name: str) -> NotSolved:
-    """What is told of an empty solid, where nothing can be made of it."""
-    told = reply_told(Source(name, []), Solid(0, 0, b""))
-    return NotSolved([told_of(told, _word(told), None, name)])
-
-
-def _word(told: str) -> str:
-    return told.partition("error: ")[2].partition(": ")[0] or "NoAnswer"
+    """What is said about an empty solid, where nothing can be made of it."""
+    return NotSolved([told_of(reply_message(Source(name, []), Solid(0, 0, b"")))])
 
 
 def _unit(source: Source) -> tuple[Fraction | None, list[Note]]:
@@ -179,23 +181,38 @@ def _unit(source: Source) -> tuple[Fraction | None, list[Note]]:
     try:
         return unit_of(source), []
     except Refused as refused:
-        spot = refused.spot
-        return None, [Note(f"{refused.word}: {refused.said}; {refused.cure}", spot.file, spot.line, spot.column)]
+        return None, [_note_at(f"{refused.word}: {refused.said}; {refused.cure}", refused.spot)]
 
 
-def told_of(told: str, word: str, spot: Spot | None, name: str | None = None) -> Told:
-    """A fault of this word at a place, of what the tools say of it."""
-    first, *others = told.splitlines() or [""]
-    message = first.partition(f"error: {word}: ")[2] or first
-    cure = next((it.removeprefix("    cure: ") for it in others if it.startswith("    cure: ")), "")
+def _note_at(message: str, spot: Spot) -> Note:
+    """A note that stands at a place."""
+    return Note(message, spot.file, spot.line, spot.column, *_marked(spot))
+
+
+def told_of(message: Message) -> Told:
+    """A fault as a client is told it, by what the tools say of it."""
+    parts = (message.word, message.said, message.cure, str(message))
+    spot = message.spot
     if spot is None:
-        return Told(word, message, cure, told, name)
-    start = end = 0
-    if spot.text is not None:
-        start = _units(spot.text[: spot.column - 1])
-        token = TOKEN.match(spot.text, spot.column - 1)
-        end = start + (_units(token[0]) if token else 0)
-    return Told(word, message, cure, told, spot.file, spot.line, spot.column, start, end)
+        return Told(*parts, message.place)
+    return Told(*parts, spot.file, spot.line, spot.column, *_marked(spot))
+
+
+def _marked(spot: Spot) -> tuple[int, int]:
+    """What a browser marks at a place: a token of the line, from 0 in its own units."""
+    if spot.text is None:
+        return 0, 0
+    start = _units(spot.text[: spot.column - 1])
+    token = TOKEN.match(spot.text, spot.column - 1)
+    return start, start + (_units(token[0]) if token else 0)
+
+
+def _printed(told: str, name: str) -> Told:
+    """The same of what the process of a source by OpenSCAD printed, which has no other parts than its lines."""
+    first, *others = told.splitlines() or [""]
+    word, _, said = first.partition("error: ")[2].partition(": ")
+    cure = next((it.removeprefix("    cure: ") for it in others if it.startswith("    cure: ")), "")
+    return Told(word or "NoAnswer", said or first, cure, told, name)
 
 
 def _units(text: bytes) -> int:

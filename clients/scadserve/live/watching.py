@@ -1,4 +1,4 @@
-"""Changes on disk: one thread looks at the folder while somebody listens, and wakes whoever does at a change."""
+"""Changes on disk: one thread looks at the folder while somebody listens, and wakes each listener at a change."""
 
 from __future__ import annotations
 
@@ -29,7 +29,7 @@ class Watch:
         self._stamps: object = None
         threading.Thread(target=self._look_on, daemon=True).start()
 
-    def __enter__(self) -> "Watch":
+    def __enter__(self) -> Watch:
         """Listens, from a look at the folder on."""
         self._look()
         with self._changed:
@@ -42,7 +42,7 @@ class Watch:
             self._listeners -= 1
 
     def next_state(self, known: State | None, seconds: float) -> State:
-        """What there is, once that is another state than the one that is known, or after so many seconds."""
+        """What there is, once that is another state than the one that is known, or after this many seconds."""
         with self._changed:
             self._changed.wait_for(lambda: self._state != known, seconds)
             return self._state

@@ -18,18 +18,18 @@ class Carving:
     """A convex outline without bays: each of these, and the two ends of its lid."""
 
     hull: Loop
-    bays: "list[tuple[Carving, tuple[Flat, Flat]]]"
+    bays: list[tuple[Carving, tuple[Flat, Flat]]]
 
-    def rings(self) -> "list[Loop]":
+    def rings(self) -> list[Loop]:
         """The convex outlines that it is made of."""
         return [self.hull, *(ring for bay, _ in self.bays for ring in bay.rings())]
 
-    def lines(self) -> "set[frozenset[Flat]]":
+    def lines(self) -> set[frozenset[Flat]]:
         """Its different sides, by their ends; a lid is one with the side of the hull that it lies on."""
         return {side for ring in self.rings() for side in sides(ring)}
 
 
-def sides(ring: Sequence[Flat]) -> "set[frozenset[Flat]]":
+def sides(ring: Sequence[Flat]) -> set[frozenset[Flat]]:
     """The sides of a closed line, by their ends."""
     return {frozenset(it) for it in zip(ring, [*ring[1:], *ring[:1]])}
 

@@ -1,4 +1,5 @@
-"""A design of OpenSCAD's evaluated form as a source of ours: the unit that is chosen, the detail that planes allow, what is told.
+"""A design of OpenSCAD's evaluated form as a source of ours: the unit that is chosen, the detail that planes allow, what is
+told.
 
     conversion = converted(csg_reader.read(text), Wanted(), openscad_front.Front(folder))
     conversion.text, conversion.unit, conversion.told
@@ -15,31 +16,32 @@ import math
 import sys
 from dataclasses import dataclass
 from fractions import Fraction
-from typing import Callable, Sequence, TypeVar
+from typing import Callable, Iterable, Sequence, TypeVar
 
 from .dimensions import Sorting
 from .extrude import turns
+from .fineness import FINER
 from .frames import frames
 from .front import Front
-from .grid import PLANES, ROOM, Grid, Rounded, Rounder, TooMany, placed, written_grid
+from .grid import PLANES, ROOM, Grid, Rounded, Rounder, TooLong, TooMany, placed, written_grid
 from .reader import DEEPEST, CsgFault, Node
 from .space import Space
-from .tree import IDENTITY, Detail, Leaf, Solid, leaves
+from .tree import IDENTITY, Detail, Leaf, Solid, leaves, outer_leaves
 
 #: The grid steps that are tried, the finest first, in OpenSCAD's lengths.
 UNITS = [Fraction(1, it) for it in (1000, 500, 400, 200, 100, 80, 50, 40, 20, 10, 8, 5, 4, 2)]
 UNITS += [Fraction(it * 10**power) for power in range(7) for it in (1, 2, 5)]
 # Below this, in grid steps, a corner hasn't moved: that much its six digits leave open.
 _STILL = 0.02
-# What is left out is tried from little to much, as the size of the design halved so often, and then between two of these.
+# What is left out is tried from little to much, as the size of the design halved this often, and then between two of these.
 _LEAST_BELOW, _STEPS_BELOW = 18, (14, 12, 10, 8, 6, 5, 4, 3)
 _HALVINGS, _FINE_BELOW = 3, 10
 # A design may be off by so much of its size, where nothing else is asked for.
 _TOLERANCE = 1 / 100
-#: What is told of a design that is empty.
+#: What is said about a design that is empty.
 NO_SOLID = "this design makes no solid at all"
 _MIXED = "shapes in the plane and in space are joined, of which the first one's count"
-# So many nodes are named in a line at most.
+# This many nodes are named in a line at most.
 _NAMED = 8
 # As many calls of Python's stand in one another for each node at most.
 _FRAMES = 20
@@ -47,8 +49,8 @@ _FRAMES = 20
 
 @dataclass(frozen=True)
 class Wanted:
-    """What is asked for: a grid step, all corners of curves, at most so many planes, how high a plan is made, how far a point may
-    be off, whether corners may be left out past that, and whether what OpenSCAD warns of is a fault."""
+    """What is asked for: a grid step, all corners of curves, at most this many planes, how high a plan is made, how far a point
+    may be off, whether corners may be left out past that, and whether what OpenSCAD warns of is a fault."""
 
     unit: Fraction | None = None
     is_exact: bool = False
@@ -61,8 +63,8 @@ class Wanted:
 
 @dataclass(frozen=True)
 class Conversion:
-    """A source of ours, the length of a unit of it in OpenSCAD's, how far a point is off at most, what is told of it, and of how
-    much OpenSCAD warned."""
+    """A source of ours, the length of a unit of it in OpenSCAD's, how far a point is off at most, what is said about it, and of
+    how much OpenSCAD warned."""
 
     text: bytes
     unit: Fraction
@@ -73,14 +75,15 @@ class Conversion:
 
 @dataclass(frozen=True)
 class Design:
-    """A design on the grid with all its corners, of any size: it may have more planes and shapes than a source. The rest is as of
-    a conversion."""
+    """A design on the grid with all its corners, of any size: it may have more planes and shapes than a source. The rest is as
+    of a conversion. Its grid has the given number of steps to a unit."""
 
     grid: Grid
     unit: Fraction
     off: float
     told: list[str]
     warnings: int
+    steps: int = 1
 
 
 T = TypeVar("T")
@@ -128,7 +131,9 @@ def _solid_nodes(nodes: Sequence[Node], wanted: Wanted) -> tuple[list[Node], lis
     if wanted.height is None:
         said = "the design is flat, which OpenSCAD makes no solid of either: --flat 1 makes it 1 high"
         raise first.fault("WrongDimension", said + "".join(f". {it}" for it in _left_out_told(left_out)))
-    return [Node("linear_extrude", {"height": float(wanted.height)}, "", first.line, first.column, found.node.children)], left_out
+    return [
+        Node("linear_extrude", {"height": float(wanted.height)}, "", first.line, first.column, found.node.children)
+    ], left_out
 
 
 class _Converter:
@@ -137,7 +142,7 @@ class _Converter:
         self._rounder = Rounder(wanted.planes)
 
     def conversion(self) -> Conversion:
-        """The source, and what is told of it."""
+        """The source, and what is said about it."""
         detail = Detail()
         solid = self._solid(detail)
         unit = self._unit(solid)
@@ -158,7 +163,7 @@ class _Converter:
             return self._design(solid, unit, detail)
 
     def design(self) -> Design:
-        """The design with all its corners, and what is told of it."""
+        """The design with all its corners, and what is said about it."""
         detail = Detail(most_sides=math.inf)
         solid = self._solid(detail)
         return self._design(solid, self._unit(solid), detail)
@@ -171,12 +176,24 @@ class _Converter:
         return Conversion(text.encode("ascii", "replace"), unit, rounded.moved + detail.off, told, self._warnings())
 
     def _design(self, solid: Solid, unit: Fraction, detail: Detail) -> Design:
-        rounded = Rounder(None).rounded(solid, unit)
+        steps, rounded = FINER, self._finer(solid, unit)
+        if rounded is None:
+            steps, rounded = 1, Rounder(None).rounded(solid, unit)
         tree = self._sound(solid, detail, rounded)
-        return Design(tree, unit, rounded.moved + detail.off, self._told(unit, detail, rounded), self._warnings())
+        return Design(tree, unit, rounded.moved + detail.off, self._told(unit, detail, rounded, steps), self._warnings(), steps)
+
+    def _finer(self, solid: Solid, unit: Fraction) -> Rounded | None:
+        """The design on a finer grid, where corners move and all of its leaves have room on it; None where that isn't so, where
+        a polyhedron can't be cut there, or a unit was asked for."""
+        if self._wanted.unit is not None or _is_still(outer_leaves(solid), unit):
+            return None
+        with contextlib.suppress(TooLong, CsgFault):
+            return Rounder(None, is_fine=True).rounded(solid, unit / FINER)
+        return None
 
     def _sound(self, solid: Solid, detail: Detail, rounded: Rounded) -> Grid:
-        """The tree of a design. Raises CsgFault where it is nothing, isn't exact and should be, or is off by more than it may be."""
+        """The tree of a design. Raises CsgFault where it is nothing, isn't exact and should be, or is off by more than it may
+        be."""
         if self._wanted.is_exact and detail.hulls:
             raise detail.hulls[0].fault("NotConvex", "a slice of it has hollow sides, and isn't cut into convex parts")
         if rounded.tree is None:
@@ -194,9 +211,9 @@ class _Converter:
             # (more by what two digits may leave out)
             raise self._fault("TooCoarse", f"{said}: --tolerance {off * 1.06:.2g} allows that, or --fewer")
 
-    def _told(self, unit: Fraction, detail: Detail, rounded: Rounded) -> list[str]:
+    def _told(self, unit: Fraction, detail: Detail, rounded: Rounded, steps: int = 1) -> list[str]:
         left = [*_left_out_told(self._left_out), *_inward_told(detail)]
-        return [_unit_told(unit, rounded), *_fewer_told(detail), *_vanished(rounded), *left, *self._front.said]
+        return [_unit_told(unit, rounded, steps), *_fewer_told(detail), *_vanished(rounded), *left, *self._front.said]
 
     def _warnings(self) -> int:
         """Of how much OpenSCAD warned."""
@@ -213,15 +230,17 @@ class _Converter:
 
     def _unit(self, solid: Solid) -> Fraction:
         """The step of the grid."""
-        all_leaves = list(leaves(solid))
+        all_leaves = list(outer_leaves(solid))
         greatest = max(abs(number) for leaf in all_leaves for corner in leaf.corners for number in corner)
         # (where sides run along no axis, a corner is rounded as the sum of two)
         room = ROOM + 0.49 if all(it.frame is None for it in all_leaves) else ROOM - 1
         units = UNITS if self._wanted.unit is None else [self._wanted.unit]
         fitting = [it for it in units if greatest <= room * float(it)]
         if not fitting:
-            raise self._fault("OutOfRange", f"a corner is {greatest:.6g} from the origin, and with units of {units[-1]} {ROOM} have room")
-        return next((it for it in fitting[:6] if _is_still(all_leaves, it)), fitting[0])
+            raise self._fault(
+                "OutOfRange", f"a corner is {greatest:.6g} from the origin, and with units of {units[-1]} {ROOM} have room"
+            )
+        return next((it for it in fitting[:6] if _is_still(all_leaves, it) and _is_still(leaves(solid), it)), fitting[0])
 
     def _within(self, solid: Solid, unit: Fraction, whole: Detail, many: TooMany) -> tuple[Fraction, Detail, Rounded]:
         """The design, which is of all detail, with no more planes and shapes than a part may have. Raises CsgFault."""
@@ -263,7 +282,8 @@ class _Converter:
         raise self._fault(many.args[0], f"it has more {what} than a part may have, also with few corners on its curves")
 
     def _least(self, size: float, unit: Fraction, way: Detail) -> tuple[Detail, Rounded] | None:
-        """The design with the least detail left out in some way, by the size as a power of two; None where all of it is too much."""
+        """The design with the least detail left out in some way, by the size as a power of two; None where all of it is too
+        much."""
         # (between what is known to be too little and what suffices; nothing at all is too little)
         low = high = size - _LEAST_BELOW
         best, below = None, _STEPS_BELOW[0]
@@ -293,11 +313,11 @@ class _Converter:
 
 def _size(solid: Solid) -> float:
     """The way from the least corner of a solid's box to its greatest."""
-    axes = list(zip(*(corner for leaf in leaves(solid) for corner in leaf.corners)))
+    axes = list(zip(*(corner for leaf in outer_leaves(solid) for corner in leaf.corners)))
     return math.dist([min(it) for it in axes], [max(it) for it in axes])
 
 
-def _is_still(all_leaves: Sequence[Leaf], unit: Fraction) -> bool:
+def _is_still(all_leaves: Iterable[Leaf], unit: Fraction) -> bool:
     """Whether no corner moves on a grid of this step."""
     for leaf in all_leaves:
         found = Rounded()
@@ -307,16 +327,17 @@ def _is_still(all_leaves: Sequence[Leaf], unit: Fraction) -> bool:
     return True
 
 
-def _unit_told(unit: Fraction, rounded: Rounded) -> str:
-    still = rounded.moved <= _STILL * unit
+def _unit_told(unit: Fraction, rounded: Rounded, steps: int) -> str:
+    still = rounded.moved <= _STILL * unit / steps
     moved = "no corner moved" if still else f"corners moved by {rounded.moved:.2g} at most"
-    return f"on a grid of {unit}: {moved}"
+    return f"on a grid of {unit}: {moved}" + (f", since its tiles have steps of {unit / steps}" if steps > 1 else "")
 
 
 def _fewer_told(detail: Detail) -> list[str]:
     """What is otherwise than OpenSCAD's, and how far that is off."""
     kinds = ", ".join(
-        f"{count} {name} ({detail.fewest[name][0]} of {detail.fewest[name][1]} at least)" for name, count in sorted(detail.fewer.items())
+        f"{count} {name} ({detail.fewest[name][0]} of {detail.fewest[name][1]} at "
+        f"least)" for name, count in sorted(detail.fewer.items())
     )
     steps = ", ".join(f"{node.called()} ({count} steps)" for node, count in detail.steps)
     hulls = ", ".join(it.called() for it in detail.hulls)
@@ -328,7 +349,7 @@ def _fewer_told(detail: Detail) -> list[str]:
 
 
 def _vanished(rounded: Rounded) -> list[str]:
-    """What is told of nodes of which nothing is left on the grid, and of those that lost some of their pieces."""
+    """What is said about nodes of which nothing is left on the grid, and of those that lost some of their pieces."""
     left = {id(it.node) for it in leaves(rounded.tree)}
     whole = [it for it in rounded.vanished if id(it) not in left]
     part = [it for it in rounded.vanished if id(it) in left]

@@ -1,6 +1,6 @@
 """Shapes in the plane: convex hulls, outlines cut into few convex pieces, and outlines with fewer corners.
 
-Coordinates are whole: whoever has others takes them in millionths first. No cut makes a corner, so pieces that touch have
+Coordinates are whole: a caller that has others takes them in millionths first. No cut makes a corner, so pieces that touch have
 whole sides in common: however corners are rounded afterwards, no gap opens between them.
 """
 
@@ -132,9 +132,10 @@ def _is_within(loop: Loop, other: Loop) -> bool:
     return any(contains(other, it) for it in middles)
 
 
-def pieces(loop: Sequence[Flat], accepts: Callable[[Sequence[Flat]], bool] | None = None) -> list[Loop]:
+def pieces(loop: Sequence[Flat], accepts: Callable[[Sequence[Flat]], bool] | None = None, are_wide: bool = False) -> list[Loop]:
     """Polygons, counterclockwise, that fill a simple loop without overlap: convex ones, or such as `accepts` tells; none where
-    it has no area. Raises NotSimple where it can't be cut."""
+    it has no area. They come of triangles that are as wide as can be where that is asked. Raises NotSimple where it can't be
+    cut."""
     ring = cleaned(loop)
     if not ring:
         return []
@@ -143,7 +144,8 @@ def pieces(loop: Sequence[Flat], accepts: Callable[[Sequence[Flat]], bool] | Non
     accepts = accepts or is_convex
     if accepts(ring):
         return [ring]
-    parts = [[ring[it] for it in piece] for piece in _merged(ring, triangles(ring), accepts)]
+    cut = widened(ring, triangles(ring)) if are_wide else triangles(ring)
+    parts = [[ring[it] for it in piece] for piece in _merged(ring, cut, accepts)]
     return [cleaned(it) for it in parts] if accepts is not is_convex else parts
 
 
@@ -199,6 +201,35 @@ def triangles(ring: Sequence[Flat]) -> list[list[int]]:
             if misses > size:
                 raise NotSimple
     return [*cut, left]
+
+
+def widened(ring: Sequence[Flat], parts: Sequence[list[int]]) -> list[list[int]]:
+    """Triangles that fill the same as these: each two side by side have the other common side where one's circle has the
+    other's corner inside it, so that they are as wide as can be (Lawson)."""
+    found = [list(it) for it in parts]
+    owner = {way: number for number, it in enumerate(found) for way in zip(it, it[1:] + it[:1])}
+    waiting = list(owner)
+    while waiting:
+        u, v = waiting.pop()
+        if (u, v) not in owner or (v, u) not in owner:
+            continue
+        one, two = owner[u, v], owner[v, u]
+        a, b = (next(it for it in found[number] if it not in (u, v)) for number in (one, two))
+        if _in_circle(*(ring[it] for it in (u, v, a, b))):
+            found[one], found[two] = [u, b, a], [b, v, a]
+            del owner[u, v], owner[v, u]
+            for number in (one, two):
+                it = found[number]
+                owner.update((way, number) for way in zip(it, it[1:] + it[:1]))
+            waiting += [(u, b), (b, v), (v, a), (a, u)]
+    return found
+
+
+def _in_circle(a: Flat, b: Flat, c: Flat, point: Flat) -> bool:
+    """Whether a point is inside the circle of a triangle, which goes counterclockwise."""
+    (ax, ay), (bx, by), (cx, cy) = ((it[0] - point[0], it[1] - point[1]) for it in (a, b, c))
+    p, q, r = ax * ax + ay * ay, bx * bx + by * by, cx * cx + cy * cy
+    return p * (bx * cy - by * cx) - q * (ax * cy - ay * cx) + r * (ax * by - ay * bx) > 0
 
 
 def _holds(ring: Sequence[Flat], left: Sequence[int], i: int, j: int, k: int) -> bool:

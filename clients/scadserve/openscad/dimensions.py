@@ -1,8 +1,7 @@
 """What of a design counts where shapes in the plane and in space are joined: those of the dimension of the first one.
 
-OpenSCAD warns of each join of both, and goes on as if the others were nothing. What it has of a node is a shape in the plane, one
-in space, or nothing at all, which a shape with no area or volume isn't: that decides, too.
-"""
+OpenSCAD warns of each join of both, and goes on as if the others were nothing. What it has of a node is a shape in the plane,
+one in space, or nothing at all, which a shape with no area or volume isn't: that decides, too. """
 
 from __future__ import annotations
 

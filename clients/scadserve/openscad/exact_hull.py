@@ -210,7 +210,8 @@ def dot(u: Sequence[int], v: Sequence[int]) -> int:
 
 
 def cross(u: Point, v: Point) -> Point:
-    """A way across two others, counterclockwise from the first to the second as seen from its end; 0 where they are along one line."""
+    """A way across two others, counterclockwise from the first to the second as seen from its end; 0 where they are along one
+    line."""
     return u[1] * v[2] - u[2] * v[1], u[2] * v[0] - u[0] * v[2], u[0] * v[1] - u[1] * v[0]
 
 

@@ -7,20 +7,25 @@ these where its sides bulge, and else parts of it, or the hull, which is told.
 from __future__ import annotations
 
 import math
-from typing import NamedTuple, Sequence, Tuple
+from functools import partial
+from typing import AbstractSet, NamedTuple, Sequence, Tuple
 
 from .bays import Carving, carved, sides
-from .convex_pieces import Flat, Loop, area2
+from .convex_pieces import Flat, Loop, area2, is_convex
 from .flat import FINE, PAST, Outline, Plan, Plane, built, fine, greatest, pieces_of
+from .polyhedron import Parts
 from .reader import Node
 from .slices import rising
 from .slices import Slice as SlicedPiece
 from .steps import OF_OUTLINES, Line, Step, Turning, lines_of, round_off
-from .tree import bounded, curve, frame_of, is_level, joined, leaves, moved, quotient
-from .tree import DIFFERENCE, INTERSECTION, MOST_SLICES, UNION, Carved, Detail, Join, Leaf, Matrix, Solid, Vector
+from .tree import bounded, curve, frame_of, is_level, is_mirrored, joined, leaves, moved, quotient
+from .tree import DIFFERENCE, INTERSECTION, MOST_SLICES, UNION
+from .tree import Carved, Dented, Detail, Join, Leaf, Matrix, Sliced, Solid, Vector
 
 # More steps than these have no boxes round them.
 _MOST_LAYERS = 256
+# By so much more than a slice a corner turns, so that rounding doesn't matter.
+_MARGIN = 1.02
 
 
 def turns(node: Node) -> bool:
@@ -37,6 +42,7 @@ class End(NamedTuple):
 
 
 Slice = Tuple[End, End]
+Side = Tuple[Flat, Flat]
 
 
 class Extrusion:
@@ -47,7 +53,9 @@ class Extrusion:
         self._height = node.number("height")
         self._low = -self._height / 2 if node.truth("center") else 0.0
         scale = node.arguments.get("scale", 1.0)
-        self._scale = [max(0.0, it) for it in (node.numbers("scale", 2) if isinstance(scale, list) else [node.number("scale", 1.0)] * 2)]
+        self._scale = [
+            max(0.0, it) for it in (node.numbers("scale", 2) if isinstance(scale, list) else [node.number("scale", 1.0)] * 2)
+        ]
         self._twist = math.radians(node.number("twist", 0.0))
         self._past = 0.0 if is_level(matrix) else PAST
         self._radius = greatest(plan, math.hypot)
@@ -196,7 +204,11 @@ class Extrusion:
             rings = [self._placed(loop, End(it.turned, 0.0)) for loop in loops for it in steps]
             self._around = [(min(axis), max(axis)) for axis in list(zip(*(corner for ring in rings for corner in ring)))[:2]]
         heights = [self._low + self._height * it.level for it in ends]
-        return Leaf(moved(self._matrix, [(x, y, z) for x in self._around[0] for y in self._around[1] for z in heights]), None, self._node)
+        return Leaf(
+            moved(self._matrix, [(x, y, z) for x in self._around[0] for y in self._around[1] for z in heights]),
+            None,
+            self._node,
+        )
 
     def _extruded(self, outline: Outline, levels: Sequence[float], is_cut: bool) -> Solid | None:
         """The solid of an outline in slices between levels."""
@@ -206,7 +218,12 @@ class Extrusion:
         return self._joined(outline, self._plane.sound(outline), longer if is_cut else _slices(levels), longer, is_straight)
 
     def _joined(
-        self, outline: Outline, sound: Sequence[tuple[Loop, list[Loop]]], slices: list[Slice], longer: list[Slice], is_straight: bool
+        self,
+        outline: Outline,
+        sound: Sequence[tuple[Loop, list[Loop]]],
+        slices: list[Slice],
+        longer: list[Slice],
+        is_straight: bool,
     ) -> Solid | None:
         """The solid of closed lines without their holes."""
         parts: list[Solid | None] = []
@@ -229,7 +246,10 @@ class Extrusion:
         """The solid of what a closed line bounds, in the form with fewer planes."""
         cut, carving = self._forms(outline, loop) if is_straight else (pieces_of(outline, loop), None)
         ring = loop if area2(loop) > 0 else loop[::-1]
-        pieces: Solid | None = joined(UNION, [self._piece(it, slices, ring) for it in cut])
+        outer = set(_sides(ring))
+        pieces: Solid | None = joined(UNION, [self._piece(it, slices, outer) for it in cut])
+        if pieces is not None and self._may_cut:
+            return Sliced(pieces, partial(self._in_dented_slices, outline, loop, slices, pieces))
         if pieces is None or carving is None:
             return pieces
         lids: list[tuple[Leaf, list[Vector]]] = []
@@ -246,34 +266,69 @@ class Extrusion:
             bays.append(self._carved(bay, slices, lids))
         return joined(DIFFERENCE, [hull, *bays])
 
-    def _piece(self, piece: Loop, slices: Sequence[Slice], sides_of: Sequence[Flat] = ()) -> Solid | None:
+    def _piece(self, piece: Loop, slices: Sequence[Slice], outer: AbstractSet[Side] = frozenset()) -> Solid | None:
         """The solid of a convex piece of a closed line, slice by slice."""
-        outer = set(zip(sides_of, [*sides_of[1:], *sides_of[:1]]))
-        parts = [part for below, above in slices for part in self._slice(piece, below, above, outer)]
-        way = frame_of(self._matrix)
-        return joined(UNION, [Leaf(moved(self._matrix, part), way, self._node) for part in parts])
+        return joined(UNION, [self._slice(piece, below, above, outer) for below, above in slices])
 
-    def _slice(self, piece: Loop, low: End, high: End, outer: set[tuple[Flat, Flat]]) -> list[list[Vector]]:
-        """The corners of the convex parts of a slice, or of one that it is near enough to."""
-        below, above = self._placed(piece, low), self._placed(piece, high)
-        whole = [[*below, *above]]
+    def _slice(self, piece: Loop, low: End, high: End, outer: AbstractSet[Side]) -> Solid:
+        """A slice, or one that it is near enough to."""
+        found = self._sliced(piece, low, high, outer)
+        whole = self._leaf([*found.below, *found.above])
         if (not self._twist or low.turned == high.turned) and self._scale[0] == self._scale[1]:
             return whole
-        ways = rising(below, above, self._twist > 0, high.level >= 1 and min(self._scale) == 0)
-        for at, way in enumerate(zip(piece, [*piece[1:], *piece[:1]])):
-            # (a side between two pieces is cut in one way for both)
-            ways[at] = ways[at] if way in outer else way[0] < way[1]
-        found = SlicedPiece(below, above, ways)
         is_hull = found.is_hull()
         off = found.sides_off() if isinstance(self._plan, Join) or self._is_fewer else 0.0
         off = off if is_hull else found.hull_off()
         parts = found.parts(self._node) if self._may_cut and not is_hull and off > self._detail.most else None
         if parts is not None:
-            return parts
+            return self._dented(found, set(), parts)
         self._detail.is_off_besides(off)
         if not is_hull or (off and not self._is_fewer):
             self._detail.note_hull(self._node)
         return whole
+
+    def _leaf(self, corners: Sequence[Vector]) -> Leaf:
+        return Leaf(moved(self._matrix, corners), frame_of(self._matrix), self._node)
+
+    def _ways(
+        self, piece: Loop, below: Sequence[Vector], above: Sequence[Vector], high: End, outer: AbstractSet[Side]
+    ) -> list[bool]:
+        """Whether each side of a slice is cut along the diagonal that goes up; one between two pieces in one way for both."""
+        ways = rising(below, above, self._twist > 0, high.level >= 1 and min(self._scale) == 0)
+        return [way if it in outer else it[0] < it[1] for way, it in zip(ways, _sides(piece))]
+
+    def _dented(self, found: SlicedPiece, filled: AbstractSet[int], parts: Parts) -> Dented:
+        """A slice with dents on some sides, of which others fill some."""
+        # (what is mirrored goes counterclockwise as seen from below)
+        turned = is_mirrored(self._matrix)
+        leaf = self._leaf([*found.above, *found.below] if turned else [*found.below, *found.above])
+        ways = [it != turned for it in found.rising]
+        return Dented(leaf, ways, filled, lambda: joined(UNION, [self._leaf(it) for it in parts()]))
+
+    def _in_dented_slices(self, outline: Outline, loop: Loop, slices: Sequence[Slice], pieces: Solid) -> Solid | None:
+        """The solid of a closed line in slices of such pieces that the hull of a slice has both triangles at each side, where
+        each of its corners turns by more than the slice does; or else what is made of other pieces."""
+        turned = max(abs(self._twist) * (high.turned - low.turned) for low, high in slices)
+        cut = pieces_of(outline, loop, partial(_turns_by_more, turned))
+        outer = set(_sides(loop if area2(loop) > 0 else loop[::-1]))
+        parts: list[Solid | None] = []
+        for low, high in slices:
+            found = [self._sliced(it, low, high, outer) for it in cut]
+            inner = [{at for at, it in enumerate(_sides(piece)) if it not in outer} for piece in cut]
+            # (where each would also be seen from a point with a dent at each side that another piece is at, these have no other
+            # dents in common, so that each of them fills those of the others)
+            are_filled = all(it.hollow(sorted(some)).parts(self._node) is not None for it, some in zip(found, inner))
+            for it, some in zip(found, inner):
+                make = it.parts(self._node)
+                if make is None:
+                    return pieces
+                whole = self._leaf([*it.below, *it.above])
+                parts.append(whole if it.is_hull() else self._dented(it, some if are_filled else set(), make))
+        return joined(UNION, parts)
+
+    def _sliced(self, piece: Loop, low: End, high: End, outer: AbstractSet[Side]) -> SlicedPiece:
+        below, above = self._placed(piece, low), self._placed(piece, high)
+        return SlicedPiece(below, above, self._ways(piece, below, above, high, outer))
 
     def _placed(self, piece: Loop, end: End) -> list[Vector]:
         """The corners of a piece at an end of a slice."""
@@ -317,8 +372,25 @@ class Extrusion:
         return length(end) - length(end - turn)
 
 
+def _turns_by_more(turned: float, ring: Sequence[Flat]) -> bool:
+    """Whether a ring is a triangle, or convex and turns at each corner by more than an angle."""
+    if len(ring) == 3:
+        return True
+    for (a, b), (c, d), (e, f) in zip([ring[-1], *ring], ring, [*ring[1:], ring[0]]):
+        u, v, x, y = c - a, d - b, e - c, f - d
+        if math.atan2(u * y - v * x, u * x + v * y) <= turned * _MARGIN:
+            return False
+    return is_convex(ring)
+
+
+def _sides(piece: Loop) -> list[Side]:
+    """The sides of a closed line, each by its two ends."""
+    return list(zip(piece, [*piece[1:], *piece[:1]]))
+
+
 def _ceiling(number: float) -> int:
-    """The least whole number above one, but for its last digits; of one that OpenSCAD's numbers don't hold the least that they do."""
+    """The least whole number above one, but for its last digits; of one that OpenSCAD's numbers don't hold the least that they
+    do."""
     return math.ceil(number - 1e-9) if abs(number) < 2**31 else -(2**31)
 
 

@@ -10,7 +10,7 @@ from dataclasses import dataclass
 from typing import Callable, List, Sequence, Tuple, Union
 
 from . import convex_pieces
-from .convex_pieces import Loop, NotSimple
+from .convex_pieces import Flat, Loop, NotSimple
 from .reader import CsgFault, Node
 from .tree import leaves, matrix_of, stretch, times
 from .tree import DIFFERENCE, INTERSECTION, UNION, Detail, Join, Matrix, Solid, circle, fragments, is_union, joined
@@ -134,12 +134,12 @@ def _paths(node: Node) -> list[list[Place]]:
     if points is None:
         return []
     if not isinstance(points, list):
-        raise node.fault("BadArgument", "points is no list")
+        raise node.fault("BadArgument", "points is not a list")
     places = [(x, y) for x, y in (node.numbers("points", 2, it) for it in points)]
     if not paths:
         return [places]
     if not isinstance(paths, list):
-        raise node.fault("BadArgument", "paths is no list")
+        raise node.fault("BadArgument", "paths is not a list")
     return [[places[it] for it in node.indices("a path", path, len(places))] for path in paths]
 
 
@@ -153,7 +153,7 @@ def fine(loop: Sequence[Place]) -> Loop:
     return [(round(x * FINE), round(y * FINE)) for x, y in loop]
 
 
-def built(plan: Plan | None, solid_of: Callable[[Outline, bool], "Solid | None"], is_cut: bool = False) -> "Solid | None":
+def built(plan: Plan | None, solid_of: Callable[[Outline, bool], Solid | None], is_cut: bool = False) -> Solid | None:
     """The solid of a plan by those of its outlines; the second word says whether one cuts or is cut with another."""
     if not isinstance(plan, Join):
         return None if plan is None else solid_of(plan, is_cut)
@@ -161,10 +161,10 @@ def built(plan: Plan | None, solid_of: Callable[[Outline, bool], "Solid | None"]
     return joined(plan.operation, [built(it, solid_of, is_cut or (cuts and at > 0)) for at, it in enumerate(plan.parts)])
 
 
-def pieces_of(outline: Outline, loop: Loop) -> list[Loop]:
-    """The convex pieces of a closed line of an outline. Raises CsgFault."""
+def pieces_of(outline: Outline, loop: Loop, accepts: Callable[[Sequence[Flat]], bool] | None = None) -> list[Loop]:
+    """The convex pieces of a closed line of an outline, or wide ones such as `accepts` tells. Raises CsgFault."""
     try:
-        return convex_pieces.pieces(loop)
+        return convex_pieces.pieces(loop, accepts, accepts is not None)
     except NotSimple:
         raise outline.node.fault("NotConvex", "its outline can't be cut into convex pieces") from None
 

@@ -1,9 +1,8 @@
 """Frames of turned parts: grids of their own, whose axes are whole multiples of the grid's steps.
 
 Where much is turned alike, and lies on few planes before, rounding corner by corner makes many planes of each. On a grid of the
-part's own, with three whole ways as its axes, what was on one plane still is. The ways are rounded, so that the part is a little
-longer or shorter, or a little slanted; how far corners are moved by that is told as it is for all.
-"""
+part's own, with three whole ways as its axes, what was on one plane still is. The ways are rounded, so that the part is a
+little longer or shorter, or a little slanted; how far corners are moved by that is told as it is for all. """
 
 from __future__ import annotations
 
@@ -14,9 +13,9 @@ from typing import Iterable, Sequence
 
 from .tree import Leaf, Matrix, Vector
 
-# A step of a frame has at least so many of the grid, and so many are tried.
+# A step of a frame has at least this many of the grid, and this many are tried.
 _LEAST, _TRIED = 8, 8
-# What is tried is tried with so many corners.
+# What is tried is tried with this many corners.
 _PLACES = 300
 
 

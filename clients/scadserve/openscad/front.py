@@ -120,7 +120,7 @@ class Front:
             if isinstance(file, str):
                 places[file] = os.path.abspath(os.path.join(self._folder, file))
                 if os.path.exists(places[file]) and not os.path.isfile(places[file]):
-                    raise it.fault("NoFile", f"{file} is no ordinary file")
+                    raise it.fault("NoFile", f"{file} is not an ordinary file")
         return printed([node], places)
 
     def _rendered(self, node: Node, source: str, form: str) -> str:
@@ -163,7 +163,9 @@ def _run(words: Sequence[str], folders: Sequence[str] = ()) -> str:
     if name is None:
         raise NotThere("it is not installed (OPENSCAD in the environment may name it)")
     try:
-        done = subprocess.run([name, *words], stdin=subprocess.DEVNULL, stdout=subprocess.PIPE, stderr=subprocess.STDOUT, env=how, check=False)
+        done = subprocess.run(
+            [name, *words], stdin=subprocess.DEVNULL, stdout=subprocess.PIPE, stderr=subprocess.STDOUT, env=how, check=False
+        )
     except OSError as error:
         raise NotThere(f"{name} doesn't start: {error.strerror}") from error
     return done.stdout.decode("utf-8", "surrogateescape")

@@ -13,13 +13,14 @@ from dataclasses import dataclass, field
 from fractions import Fraction
 from typing import Callable, Iterable, Iterator, List, Mapping, Sequence, TypeVar, Union, cast
 
-from .exact_hull import Hull, Plane, Point, hull
+from .exact_hull import Hull, Plane, Point, hull, plane_of
+from .fineness import fits
 from .frames import Frame, basis, whole
 from .pockets import Carving, NotCarved, carved, flat_faces
 from .reader import Node
-from .tree import UNION, Carved, Faced, Join, Leaf, Matrix, Solid, Vector, direction, joined
+from .tree import DIFFERENCE, UNION, Carved, Dented, Faced, Join, Leaf, Matrix, Sliced, Solid, Vector, direction, joined
 
-#: Coordinates are at most so many grid steps in size.
+#: Coordinates are at most this many grid steps in size.
 ROOM = 4095
 #: What a design may have at most.
 PLANES, SHAPES = 1024, 1024
@@ -42,38 +43,50 @@ Grid = Union[Body, "Join[Body]"]
 class Rounded:
     """What a design comes to on the grid: its tree, and what rounding did."""
 
-    tree: "Grid | None" = None
+    tree: Grid | None = None
     #: How far a corner was moved at most, in OpenSCAD's lengths.
     moved: float = 0.0
     vanished: List[Node] = field(default_factory=list)
-    planes: "set[Plane]" = field(default_factory=set)
+    planes: set[Plane] = field(default_factory=set)
     shapes: int = 0
-    frames: "Mapping[Matrix, Frame]" = field(default_factory=dict)
+    frames: Mapping[Matrix, Frame] = field(default_factory=dict)
 
 
 class TooMany(Exception):
     """A design has more planes or shapes than it may have: the word of that fault."""
 
 
-class Rounder:
-    """Rounds designs with at most so many planes, or with any number; hulls that it has taken are known, wherever they stand.
+class TooLong(Exception):
+    """A design has a facet that is too long for tiles with origins of their own."""
 
-    Where there is no bound, leaves stay whole however many corners they have, since tiles cut them.
+
+class Rounder:
+    """Rounds designs with at most this many planes, or with any number; hulls that it has taken are known, wherever they stand.
+
+    Where there is no bound, leaves stay whole however many corners they have, since tiles cut them. Where tiles shall have
+    origins of their own, TooLong is raised at a leaf for which they have no room.
     """
 
-    def __init__(self, planes: "int | None") -> None:
-        self._planes = planes
-        self._known: "dict[tuple[Point, ...], Hull | None]" = {}
+    def __init__(self, planes: int | None, is_fine: bool = False) -> None:
+        self._planes, self._is_fine = planes, is_fine
+        self._known: dict[tuple[Point, ...], Hull | None] = {}
 
-    def rounded(self, solid: "Solid | None", unit: Fraction, frames: "Mapping[Matrix, Frame] | None" = None) -> Rounded:
+    def rounded(self, solid: Solid | None, unit: Fraction, frames: Mapping[Matrix, Frame] | None = None) -> Rounded:
         """A design on a grid of this step, in which turned parts may have frames of their own. Raises TooMany."""
         found = Rounded(frames=frames or {})
-        found.tree = None if solid is None else self._tree(solid, float(unit), found)
+        found.tree = self._tree(solid, float(unit), found)
         return found
 
-    def _tree(self, solid: Solid, unit: float, found: Rounded) -> "Grid | None":
+    def _tree(self, solid: Solid | None, unit: float, found: Rounded) -> Grid | None:
+        if solid is None:
+            return None
         if isinstance(solid, Carved):
             return self._tree(solid.hull if self._has_lids(solid, unit, found.frames) else solid.pieces, unit, found)
+        if isinstance(solid, Dented):
+            dented = self._dented(solid, unit, found) if self._planes is None else None
+            return dented or self._tree(solid.parts, unit, found)
+        if isinstance(solid, Sliced):
+            return self._tree(solid.make() if self._planes is None else solid.pieces, unit, found)
         if isinstance(solid, Join):
             return joined(solid.operation, [self._tree(it, unit, found) for it in solid.parts])
         if isinstance(solid, Faced):
@@ -84,23 +97,29 @@ class Rounder:
             return None
         return self._bodies(body, solid.node, found)
 
-    def _bodies(self, body: Hull, node: Node, found: Rounded) -> "Grid | None":
+    def _bodies(self, body: Hull, node: Node, found: Rounded) -> Grid | None:
         """A hull as shapes of a source. Raises TooMany."""
         parts = [body] if self._planes is None else split(body)
         for it in parts:
+            self._check_room(it)
             self._count(it.facets, found)
             found.shapes += 1 if _is_plain(it) else 2
         if self._planes is not None and found.shapes > SHAPES:
             raise TooMany("TooManyParts")
         return joined(UNION, [Body(it, node) for it in parts])
 
-    def _count(self, planes: "Iterable[Plane]", found: Rounded) -> None:
+    def _check_room(self, body: Hull) -> None:
+        """Raises TooLong."""
+        if self._is_fine and not fits(body):
+            raise TooLong
+
+    def _count(self, planes: Iterable[Plane], found: Rounded) -> None:
         """Notes planes. Raises TooMany."""
         found.planes.update(map(_either, planes))
         if self._planes is not None and len(found.planes) > self._planes:
             raise TooMany("TooManyPlanes")
 
-    def _carved(self, solid: Faced, unit: float, found: Rounded) -> "Grid | None":
+    def _carved(self, solid: Faced, unit: float, found: Rounded) -> Grid | None:
         """A polyhedron as hulls without bays. Raises TooMany, and CsgFault where it has no such form."""
         corners = points(solid.leaf, unit, found)
         node = solid.leaf.node
@@ -115,12 +134,12 @@ class Rounder:
             return None
         return self._of_carving(carving, node, found)
 
-    def _of_carving(self, carving: Carving, node: Node, found: Rounded) -> "Grid | None":
+    def _of_carving(self, carving: Carving, node: Node, found: Rounded) -> Grid | None:
         if isinstance(carving, Hull):
             return self._bodies(carving, node, found)
         return joined(carving.operation, [self._of_carving(it, node, found) for it in carving.parts])
 
-    def _has_lids(self, solid: Carved, unit: float, frames: "Mapping[Matrix, Frame]") -> bool:
+    def _has_lids(self, solid: Carved, unit: float, frames: Mapping[Matrix, Frame]) -> bool:
         """Whether each lid lies on a side of its hull on the grid: else a thin wall would be left there."""
         for leaf, lid in solid.lids:
             aside = Rounded(frames=frames)
@@ -130,16 +149,48 @@ class Rounder:
                 return False
         return True
 
-    def _hull(self, corners: "set[Point]") -> "Hull | None":
+    def _dented(self, solid: Dented, unit: float, found: Rounded) -> Grid | None:
+        """A slice as the hull of its corners without dents; None where that isn't exact on this grid."""
+        corners = points(solid.leaf, unit, found)
+        body = self._hull(set(corners))
+        if body is None:
+            return None
+        size = len(solid.ways)
+        self._check_room(body)
+        parts: List[Grid | None] = [Body(body, solid.leaf.node)]
+        for at, way in enumerate(solid.ways):
+            ends = (at, (at + 1) % size, size + at, size + (at + 1) % size)
+            side = [corners[it] for it in ends]
+            found_ways = [it for it in (way, not way) if all(_is_on(body, _half(side, it, high)) for high in (False, True))]
+            if not found_ways:
+                return None
+            dent = None if way in found_ways or at in solid.filled else self._hull(set(side))
+            parts += [] if dent is None else [Body(dent, solid.leaf.node)]
+        return joined(DIFFERENCE, parts)
+
+    def _hull(self, corners: set[Point]) -> Hull | None:
         x, y, z = low = min(corners)
         key = tuple(sorted((a - x, b - y, c - z) for a, b, c in corners))
         if key not in self._known:
             self._known[key] = hull(key)
         body = self._known[key]
-        return None if body is None else _moved(body, low)
+        return None if body is None else moved_hull(body, low)
 
 
-def _moved(body: Hull, by: Point) -> Hull:
+def _half(side: Sequence[Point], is_rising: bool, is_high: bool) -> tuple[Point, Point, Point]:
+    """The lower or the upper triangle of a side, counterclockwise seen from outside, that is cut along one of its diagonals."""
+    p, q, r, s = side
+    return ((p, s, r) if is_high else (p, q, s)) if is_rising else (q, s, r) if is_high else (p, q, r)
+
+
+def _is_on(body: Hull, triangle: tuple[Point, Point, Point]) -> bool:
+    """Whether a triangle of corners lies on a facet of a hull, or has no area."""
+    plane = plane_of(*triangle)
+    return plane is None or plane in body.facets
+
+
+def moved_hull(body: Hull, by: Point) -> Hull:
+    """A hull at another place."""
     x, y, z = by
     facets = {(a, b, c, d + a * x + b * y + c * z): ring for (a, b, c, d), ring in body.facets.items()}
     return Hull([(a + x, b + y, c + z) for a, b, c in body.corners], facets)
@@ -151,12 +202,12 @@ def _either(plane: Plane) -> Plane:
     return plane if (a, b, c) > (0, 0, 0) else (-a, -b, -c, -d)
 
 
-def placed(leaf: Leaf, unit: float, found: Rounded) -> "set[Point]":
+def placed(leaf: Leaf, unit: float, found: Rounded) -> set[Point]:
     """The different corners of a leaf on the grid."""
     return set(points(leaf, unit, found))
 
 
-def points(leaf: Leaf, unit: float, found: Rounded) -> "List[Point]":
+def points(leaf: Leaf, unit: float, found: Rounded) -> List[Point]:
     """The corners of a leaf on the grid, one after the other."""
     corners: List[Point] = []
     farthest = 0.0
@@ -199,7 +250,7 @@ def split(body: Hull) -> List[Hull]:
     return _slabs(body) or _cones(body)
 
 
-def _slabs(body: Hull) -> "List[Hull] | None":
+def _slabs(body: Hull) -> List[Hull] | None:
     for axis in (2, 1, 0):
         heights = [it[axis] for it in body.corners]
         levels = sorted(set(heights))
@@ -212,7 +263,7 @@ def _slabs(body: Hull) -> "List[Hull] | None":
     return None
 
 
-def _grouped(levels: List[int], counts: List[int], crossed: "set[int]") -> "List[tuple[int, int]] | None":
+def _grouped(levels: List[int], counts: List[int], crossed: set[int]) -> List[tuple[int, int]] | None:
     """Stretches of levels that begin and end at whole ones, with few corners each; None where there are none."""
     groups, start = [], 0
     while start < len(levels) - 1:
@@ -258,7 +309,7 @@ def written_grid(tree: Grid) -> Iterator[str]:
     return written(tree, lambda it: shape_text(it.hull))
 
 
-def written(tree: "Union[L, Join[L]]", text_of: "Callable[[L], str]") -> Iterator[str]:
+def written(tree: Union[L, Join[L]], text_of: Callable[[L], str]) -> Iterator[str]:
     """The lines of a source of shapes, of which each has a text; deep joins are modules of their own."""
     modules: List[List[str]] = []
     body = list(_written(tree, 0, modules, text_of))
@@ -271,7 +322,7 @@ def written(tree: "Union[L, Join[L]]", text_of: "Callable[[L], str]") -> Iterato
     yield from body
 
 
-def _written(tree: "Union[L, Join[L]]", depth: int, modules: List[List[str]], text_of: "Callable[[L], str]") -> Iterator[str]:
+def _written(tree: Union[L, Join[L]], depth: int, modules: List[List[str]], text_of: Callable[[L], str]) -> Iterator[str]:
     if not isinstance(tree, Join):
         yield from _broken(text_of(tree))
         return
@@ -306,12 +357,12 @@ def shape_text(body: Hull) -> str:
     return hull_text([*(body.corners[it] for it in first), *rest])
 
 
-def hull_text(points: "Iterable[Point]") -> str:
+def hull_text(points: Iterable[Point]) -> str:
     """The hull of points as a shape of a source: the first three are clockwise seen from outside, the fourth is behind them."""
     return f"hull() polyhedron([{', '.join(map(_list, points))}], F);"
 
 
-def _prism(body: Hull, low: int, high: int) -> "List[int] | None":
+def _prism(body: Hull, low: int, high: int) -> List[int] | None:
     """The lower corners of an upright prism, in order; None where it is none."""
     ring = body.facets.get((0, 0, -1, -low))
     if ring is None or (0, 0, 1, high) not in body.facets or not 3 <= len(ring) <= _MOST_FACETS:

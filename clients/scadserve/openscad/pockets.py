@@ -1,9 +1,9 @@
 """Closed polyhedra on the grid as hulls without their bays, exactly: each part is the hull of some of the polyhedron's corners.
 
-What a polyhedron lacks of its hull are bays, each closed by a lid on a side of the hull; a bay has a hull and bays itself. Where
-a bay has all of the hull around it, it is halved by the plane of a side, where that makes corners on the grid alone. A boundary is the different planes on which it has a part, each with the ways round that part, counterclockwise
-as seen from outside; so two boundaries are joined, or one is turned round, way by way.
-"""
+What a polyhedron lacks of its hull are bays, each closed by a lid on a side of the hull; a bay has a hull and bays itself.
+Where a bay has all of the hull around it, it is halved by the plane of a side, where that makes corners on the grid alone. A
+boundary is the different planes on which it has a part, each with the ways round that part, counterclockwise as seen from
+outside; so two boundaries are joined, or one is turned round, way by way. """
 
 from __future__ import annotations
 
@@ -28,7 +28,7 @@ class NotCarved(ValueError):
     """A polyhedron that has no such form, or whose faces go through one another on the grid."""
 
 
-def carved(faces: "Sequence[tuple[Plane, list[Way]]]") -> "Carving | None":
+def carved(faces: Sequence[tuple[Plane, list[Way]]]) -> Carving | None:
     """The solid of flat faces; None where it has no volume. Raises NotCarved."""
     points = sorted({point for _, ways in faces for way in ways for point in way})
     boundary: Boundary = {}
@@ -48,7 +48,7 @@ def volume6(carving: Carving) -> int:
     return first + sum(others) * (1 if carving.operation == UNION else -1)
 
 
-def _carved(boundary: Boundary, depth: int, around: "Hull | None" = None) -> "Carving | None":
+def _carved(boundary: Boundary, depth: int, around: Hull | None = None) -> Carving | None:
     """A body as its hull without its bays, where it lies in a larger hull. Raises NotCarved."""
     points = sorted({point for ways in boundary.values() for way in ways for point in way})
     body = hull(points)
@@ -68,7 +68,7 @@ def _carved(boundary: Boundary, depth: int, around: "Hull | None" = None) -> "Ca
     return joined(DIFFERENCE, [body, *(_carved(it, depth + 1, body) for it in _bodies(lacking))])
 
 
-def flat_faces(rings: Iterable[Sequence[Point]]) -> "Iterator[tuple[Plane, list[Way]]]":
+def flat_faces(rings: Iterable[Sequence[Point]]) -> Iterator[tuple[Plane, list[Way]]]:
     """Faces, counterclockwise as seen from outside, with their planes: one that isn't flat as triangles. Raises NotCarved."""
     for ring in rings:
         corners = [it for at, it in enumerate(ring) if it != ring[at - 1]]
@@ -82,13 +82,16 @@ def flat_faces(rings: Iterable[Sequence[Point]]) -> "Iterator[tuple[Plane, list[
                 yield of_triangle, _ways(triangle)
 
 
-def _triangles(corners: Sequence[Point], plane: "Plane | None") -> "list[tuple[Point, Point, Point]]":
+def _triangles(corners: Sequence[Point], plane: Plane | None) -> list[tuple[Point, Point, Point]]:
     """The triangles of a face, as they are seen from where its greatest side is."""
     if plane is None or len(corners) == 3:
         return []
     a, b, c, _ = plane
     axis = max(range(3), key=[abs(a), abs(b), abs(c)].__getitem__)
-    seen = [(it[(axis + 1) % 3], it[(axis + 2) % 3]) if plane[axis] > 0 else (it[(axis + 2) % 3], it[(axis + 1) % 3]) for it in corners]
+    seen = [
+        (it[(axis + 1) % 3], it[(axis + 2) % 3]) if plane[axis] > 0 else (it[(axis + 2) % 3], it[(axis + 1) % 3])
+        for it in corners
+    ]
     try:
         found = convex_pieces.triangles(seen)
     except convex_pieces.NotSimple:
@@ -96,7 +99,7 @@ def _triangles(corners: Sequence[Point], plane: "Plane | None") -> "list[tuple[P
     return [(corners[i], corners[j], corners[k]) for i, j, k in found]
 
 
-def _plane_of_ring(corners: Sequence[Point]) -> "Plane | None":
+def _plane_of_ring(corners: Sequence[Point]) -> Plane | None:
     """The plane of a flat closed line that goes counterclockwise round its area as seen from ahead; None where it has none."""
     area = (0, 0, 0)
     for u, v in _ways(corners):
@@ -112,11 +115,11 @@ def _plane_of_ring(corners: Sequence[Point]) -> "Plane | None":
     return plane_of(base, (base[0] + u[0], base[1] + u[1], base[2] + u[2]), (base[0] + v[0], base[1] + v[1], base[2] + v[2]))
 
 
-def _ways(corners: Sequence[Point]) -> "list[Way]":
+def _ways(corners: Sequence[Point]) -> list[Way]:
     return list(zip(corners, [*corners[1:], *corners[:1]]))
 
 
-def _divided(ways: Iterable[Way], points: Sequence[Point]) -> "Iterator[Way]":
+def _divided(ways: Iterable[Way], points: Sequence[Point]) -> Iterator[Way]:
     """Ways cut at each of the points, in ascending order, that they go through."""
     for u, v in ways:
         along = less(v, u)
@@ -152,7 +155,7 @@ def _volume6(boundary: Boundary) -> int:
     return total
 
 
-def _halves(boundary: Boundary) -> "list[Boundary]":
+def _halves(boundary: Boundary) -> list[Boundary]:
     """A body in two, cut along the plane of a side on which much lies and where it makes whole corners. Raises NotCarved."""
     corners = {point for ways in boundary.values() for way in ways for point in way}
     for plane in sorted(boundary, key=lambda it: -len(boundary[it])):
@@ -173,7 +176,7 @@ def _behind(boundary: Boundary, plane: Plane) -> Boundary:
     kept[plane] = list(boundary.get(plane, ()))
     points = sorted({point for ways in kept.values() for way in ways for point in way})
     found: Boundary = {}
-    open_ways: "set[Way]" = set()
+    open_ways: set[Way] = set()
     for side, ways in kept.items():
         for way in _divided(ways, points):
             _add(found, side, [way])
@@ -188,7 +191,7 @@ def _behind(boundary: Boundary, plane: Plane) -> Boundary:
     return found
 
 
-def _behind_on_side(side: Plane, ways: Iterable[Way], plane: Plane) -> "list[Way]":
+def _behind_on_side(side: Plane, ways: Iterable[Way], plane: Plane) -> list[Way]:
     """The ways round what of a side is behind a plane. Raises NotCarved."""
     kept = []
     for u, v in ways:
@@ -204,7 +207,7 @@ def _behind_on_side(side: Plane, ways: Iterable[Way], plane: Plane) -> "list[Way
             cut = (u[0] + shares[0][0], u[1] + shares[1][0], u[2] + shares[2][0])
             kept.append((u, cut) if ends[0] < 0 else (cut, v))
     # (along the line of the cut, from where more ways end to where more begin)
-    balance: "dict[Point, int]" = {}
+    balance: dict[Point, int] = {}
     for u, v in kept:
         balance[u] = balance.get(u, 0) - 1
         balance[v] = balance.get(v, 0) + 1
@@ -229,28 +232,28 @@ def _bodies(boundary: Boundary) -> List[Boundary]:
             number = owner[number]
         return number
 
-    at: "dict[Way, list[int]]" = {}
+    at: dict[Way, list[int]] = {}
     for number, (_, part) in enumerate(faces):
         for way in part:
             at.setdefault((min(way), max(way)), []).append(number)
     for edge, numbers in at.items():
         for one, two in _neighbours(edge, [(it, faces[it][0], edge in faces[it][1]) for it in numbers]):
             owner[root(one)] = root(two)
-    found: "dict[int, Boundary]" = {}
+    found: dict[int, Boundary] = {}
     for number, (plane, part) in enumerate(faces):
         found.setdefault(root(number), {}).setdefault(plane, set()).update(part)
     bodies = list(found.values())
     return bodies if all(_volume6(it) > 0 for it in bodies) or len(bodies) < 2 else [boundary]
 
 
-def _loops(plane: Plane, ways: Iterable[Way]) -> "list[set[Way]]":
+def _loops(plane: Plane, ways: Iterable[Way]) -> list[set[Way]]:
     """The closed lines on a plane, which may touch at corners."""
-    starting: "dict[Point, list[Way]]" = {}
-    ending: "dict[Point, list[Way]]" = {}
+    starting: dict[Point, list[Way]] = {}
+    ending: dict[Point, list[Way]] = {}
     for way in ways:
         starting.setdefault(way[0], []).append(way)
         ending.setdefault(way[1], []).append(way)
-    next_of: "dict[Way, Way]" = {}
+    next_of: dict[Way, Way] = {}
     for point, some in starting.items():
         before = ending.get(point, [])
         if len(some) == len(before) == 1:
@@ -270,7 +273,7 @@ def _loops(plane: Plane, ways: Iterable[Way]) -> "list[set[Way]]":
     return found
 
 
-def _neighbours(edge: Way, faces: "list[tuple[int, Plane, bool]]") -> "list[tuple[int, int]]":
+def _neighbours(edge: Way, faces: list[tuple[int, Plane, bool]]) -> list[tuple[int, int]]:
     """Pairs of faces at an edge, by number, plane and whether they go along it: those with the inside between them."""
     if len(faces) == 2 and faces[0][2] != faces[1][2]:
         return [(faces[0][0], faces[1][0])]
@@ -283,7 +286,7 @@ def _neighbours(edge: Way, faces: "list[tuple[int, Plane, bool]]") -> "list[tupl
     return _sectors(along, inward)
 
 
-def _sectors(axis: Point, sides: "list[tuple[Point, T, bool]]") -> "list[tuple[T, T]]":
+def _sectors(axis: Point, sides: list[tuple[Point, T, bool]]) -> list[tuple[T, T]]:
     """Of ways across an axis, each with whose it is and whether a sector begins there, those that are next to each other
     counterclockwise: the one with which a sector begins, and the one with which it ends. Raises NotCarved."""
     first = sides[0][0]
@@ -292,7 +295,7 @@ def _sectors(axis: Point, sides: "list[tuple[Point, T, bool]]") -> "list[tuple[T
         side = dot(axis, cross(first, way))
         return 0 if side > 0 or (side == 0 and dot(first, way) > 0) else 1
 
-    def order(one: "tuple[Point, T, bool]", two: "tuple[Point, T, bool]") -> int:
+    def order(one: tuple[Point, T, bool], two: tuple[Point, T, bool]) -> int:
         if half(one[0]) != half(two[0]):
             return half(one[0]) - half(two[0])
         side = dot(axis, cross(one[0], two[0]))

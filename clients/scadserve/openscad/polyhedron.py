@@ -1,12 +1,14 @@
 """Polyhedra of OpenSCAD's evaluated form as convex parts: one where they are convex, and else cones from a point that sees all.
 
 A face goes clockwise round its corners as seen from outside. Parts have the polyhedron's own corners, and that one point. Where
-no point sees all faces, corners and faces are given, for a carving on the grid. A terrain is a column under each of its triangles.
+no point sees all faces, corners and faces are given, for a carving on the grid. A terrain is a column under each of its
+triangles.
 """
 
 from __future__ import annotations
 
-from typing import NamedTuple, Sequence
+from functools import partial
+from typing import Callable, NamedTuple, Sequence
 
 from . import exact_hull
 from .flat import FINE
@@ -21,33 +23,39 @@ _TRIES = 400
 _MOST_TRIANGLES = 4096
 
 
+#: Makes the corners of convex parts.
+Parts = Callable[[], "list[list[Vector]]"]
+
+
 class Surface(NamedTuple):
     """A closed surface that doesn't go through itself: its different corners, and its faces, counterclockwise from outside."""
 
-    places: "list[Vector]"
-    rings: "list[list[int]]"
+    places: list[Vector]
+    rings: list[list[int]]
 
 
 def faces_of(node: Node, count: int) -> list[list[int]]:
-    """The faces of a `polyhedron` of so many points. Raises CsgFault."""
+    """The faces of a `polyhedron` of this many points. Raises CsgFault."""
     faces = node.arguments.get("faces")
     if faces is None:
         return []
     if not isinstance(faces, list):
-        raise node.fault("BadArgument", "faces is no list")
+        raise node.fault("BadArgument", "faces is not a list")
     return [node.indices("a face", face, count) for face in faces]
 
 
 def looks_inward(places: Sequence[Vector], faces: Sequence[Sequence[int]]) -> bool:
     """Whether the faces of a closed polyhedron go counterclockwise as seen from outside, all of them: its volume is below 0."""
     points, numbers = _merged(places)
-    return sum(_volume6((0, 0, 0), [points[numbers[at]] for at in (face[0], c, b)]) for face in faces for b, c in zip(face[1:], face[2:])) < 0
+    triangles = ((face[0], c, b) for face in faces for b, c in zip(face[1:], face[2:]))
+    return sum(_volume6((0, 0, 0), [points[numbers[at]] for at in it]) for it in triangles) < 0
 
 
-def columns(node: Node, places: Sequence[Vector], faces: Sequence[Sequence[int]]) -> "list[list[Vector]]":
-    """The corners of the columns of a terrain, one under each triangle of it down to its floor. Neighbours have a side in common.
+def columns(node: Node, places: Sequence[Vector], faces: Sequence[Sequence[int]]) -> list[list[Vector]]:
+    """The corners of the columns of a terrain, one under each triangle of it down to its floor.
 
-    Four triangles round a point that lie on one plane have one. Raises CsgFault where what looks down isn't the floor.
+    Neighbours have a side in common. Four triangles around a point that lie on one plane have one column. Raises CsgFault where
+    what looks down isn't the floor.
     """
     points, numbers = _merged(places)
     floor = min(z for _, _, z in points)
@@ -57,21 +65,22 @@ def columns(node: Node, places: Sequence[Vector], faces: Sequence[Sequence[int]]
         # (clockwise as seen from outside)
         turned = sum(p[0] * q[1] - q[0] * p[1] for p, q in zip(ring, [*ring[1:], *ring[:1]]))
         if turned > 0 and any(z > floor for _, _, z in ring):
-            raise node.fault("NotConvex", "it is no terrain: some face of it looks down, and isn't its floor")
+            raise node.fault("NotConvex", "it is not a terrain: some face of it looks down, and isn't its floor")
         upward += [ring] if turned < 0 else []
-    tops = [part for ring in upward for part in ([ring] if len(ring) == 3 else [[ring[0], q, r] for q, r in zip(ring[1:], ring[2:])])]
+    tops = [[ring[0], q, r] for ring in upward for q, r in zip(ring[1:], ring[2:])]
     return [[_place(it) for x, y, z in top for it in ((x, y, floor), (x, y, z))] for top in _joined_tops(tops)]
 
 
-def _joined_tops(tops: "list[list[exact_hull.Point]]") -> "list[list[exact_hull.Point]]":
+def _joined_tops(tops: list[list[exact_hull.Point]]) -> list[list[exact_hull.Point]]:
     """Triangles, of which four round one point that lie on one plane are one square."""
-    found: "list[list[exact_hull.Point]]" = []
+    found: list[list[exact_hull.Point]] = []
     at = 0
     while at < len(tops):
         four = tops[at : at + 4]
         middle = set(four[0]).intersection(*four[1:]) if len(four) == 4 else set()
         corners = list(dict.fromkeys(it for top in four for it in top if it not in middle))
-        if len(middle) == 1 and len(corners) == 4 and _volume6(corners[3], corners[:3]) == _volume6(next(iter(middle)), corners[:3]) == 0:
+        is_square = len(middle) == 1 and len(corners) == 4
+        if is_square and all(_volume6(it, corners[:3]) == 0 for it in (corners[3], *middle)):
             found.append(corners)
             at += 4
         else:
@@ -80,15 +89,21 @@ def _joined_tops(tops: "list[list[exact_hull.Point]]") -> "list[list[exact_hull.
     return found
 
 
-def cut(node: Node, places: Sequence[Vector], faces: Sequence[Sequence[int]]) -> "list[list[Vector]] | Surface":
+def cut(node: Node, places: Sequence[Vector], faces: Sequence[Sequence[int]]) -> list[list[Vector]] | Surface:
     """The corners of the convex parts of a polyhedron, none where it has no faces, or else its surface. Raises CsgFault."""
+    found = seen(node, places, faces)
+    return found if isinstance(found, Surface) else found()
+
+
+def seen(node: Node, places: Sequence[Vector], faces: Sequence[Sequence[int]]) -> Parts | Surface:
+    """What makes the convex parts of a polyhedron where some point sees all faces, or else its surface. Raises CsgFault."""
     points, numbers = _merged(places)
     rings = [[numbers[it] for at, it in enumerate(face) if numbers[it] != numbers[face[at - 1]]] for face in faces]
     # (turned round, so that triangles go counterclockwise as seen from outside)
     triangles = [(ring[0], c, b) for ring in rings for b, c in zip(ring[1:], ring[2:])]
     triangles = [it for it in triangles if len(set(it)) == 3]
     if not triangles:
-        return []
+        return list
     _check_closed(node, rings)
     if sum(_volume6((0, 0, 0), [points[it] for it in triangle]) for triangle in triangles) <= 0:
         raise node.fault("NotConvex", "its faces bound no volume: they go clockwise round their corners as seen from outside")
@@ -96,14 +111,25 @@ def cut(node: Node, places: Sequence[Vector], faces: Sequence[Sequence[int]]) ->
     size = max(max(abs(it) for it in point) for point in points)
     used = sorted({it for ring in rings for it in ring})
     if all(_height(plane, points[it]) <= _FLAT * size for plane in planes for it in used):
-        return [[_place(points[it]) for it in used]]
+        return partial(_placed, [[points[it] for it in used]])
     eye = _eye(planes, [points[it] for it in used])
     if eye is None and len(triangles) > _MOST_TRIANGLES:
-        raise node.fault("TooManyPlanes", f"it isn't convex, and has {len(triangles)} triangles: {_MOST_TRIANGLES} are looked at")
+        what = f"it isn't convex, and has {len(triangles)} triangles: {_MOST_TRIANGLES} are looked at"
+        raise node.fault("TooManyPlanes", what)
     if eye is None:
         _check_uncrossed(node, points, triangles)
         return Surface([_place(it) for it in points], [ring[::-1] for ring in rings if len(ring) > 2])
-    return [[_place(it) for it in part] for part in _cones(eye, points, triangles)]
+    return partial(_placed_cones, eye, points, triangles)
+
+
+def _placed_cones(
+    eye: exact_hull.Point, points: Sequence[exact_hull.Point], triangles: Sequence[Triangle]
+) -> list[list[Vector]]:
+    return _placed(_cones(eye, points, triangles))
+
+
+def _placed(parts: list[list[exact_hull.Point]]) -> list[list[Vector]]:
+    return [[_place(it) for it in part] for part in parts]
 
 
 def _merged(places: Sequence[Vector]) -> tuple[list[exact_hull.Point], list[int]]:
@@ -130,7 +156,7 @@ def _check_uncrossed(node: Node, points: Sequence[exact_hull.Point], triangles: 
     edges = {(min(way), max(way)) for it in triangles for way in _ways(it)}
     bodies = [(edge, [points[it] for it in edge]) for edge in edges] + [(it, [points[at] for at in it]) for it in triangles]
     boxes = [([min(axis) for axis in zip(*corners)], [max(axis) for axis in zip(*corners)]) for _, corners in bodies]
-    there: "list[list[int]]" = [[], []]
+    there: list[list[int]] = [[], []]
     for number in sorted(range(len(bodies)), key=lambda it: boxes[it][0]):
         (numbers, _), (low, high) = bodies[number], boxes[number]
         is_edge = len(numbers) == 2
@@ -191,8 +217,10 @@ def _eye(planes: Sequence[Sequence[float]], points: Sequence[exact_hull.Point]) 
     return None
 
 
-def _cones(eye: exact_hull.Point, points: Sequence[exact_hull.Point], triangles: Sequence[Triangle]) -> list[list[exact_hull.Point]]:
-    """The corners of cones over faces; neighbours stand together as long as that is convex, which their volumes tell exactly."""
+def _cones(
+    eye: exact_hull.Point, points: Sequence[exact_hull.Point], triangles: Sequence[Triangle]
+) -> list[list[exact_hull.Point]]:
+    """The corners of cones over faces. Neighbours stand together as long as that is convex, which their volumes say exactly."""
     parts: list[tuple[set[exact_hull.Point], int]] = []
     across = {way: number for number, it in enumerate(triangles) for way in _ways(it)}
     seen: set[int] = set()

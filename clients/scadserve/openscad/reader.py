@@ -34,7 +34,8 @@ GREATEST = 1e12
 
 
 class CsgFault(Exception):
-    """What can't be converted: its line and column, from 1, the name of its kind, what is wrong there, and the node's number."""
+    """What can't be converted: its line and column, from 1, the name of its kind, what is wrong there, and the node's number.
+    """
 
     def __init__(self, line: int, column: int, word: str, said: str, ordinal: int = 0) -> None:
         super().__init__(f"{line}:{column}: {word}: {said}")
@@ -73,26 +74,28 @@ class Node:
         """A number that is given. Raises CsgFault where it isn't, or is none or infinite."""
         value = self.arguments.get(name, default)
         if isinstance(value, bool) or not isinstance(value, (int, float)) or not math.isfinite(value):
-            raise self.fault("BadArgument", f"{name} is no finite number")
+            raise self.fault("BadArgument", f"{name} is not a finite number")
         return self._within(name, float(value))
 
     def _within(self, name: str, value: float) -> float:
         if abs(value) > GREATEST:
-            raise self.fault("OutOfRange", f"{name or 'its argument'} holds {value:.6g}, and numbers up to {GREATEST:.6g} are read")
+            raise self.fault(
+                "OutOfRange", f"{name or 'its argument'} holds {value:.6g}, and numbers up to {GREATEST:.6g} are read"
+            )
         return value
 
     def numbers(self, name: str, count: int, value: Value = None) -> list[float]:
-        """So many numbers in a list, of an argument or of the value that is given. Raises CsgFault."""
+        """This many numbers in a list, of an argument or of the value that is given. Raises CsgFault."""
         found = self.arguments.get(name) if value is None else value
         if not isinstance(found, list) or len(found) != count:
-            raise self.fault("BadArgument", f"{name or 'its argument'} is no list of {count} numbers")
+            raise self.fault("BadArgument", f"{name or 'its argument'} is not a list of {count} numbers")
         for it in found:
             if isinstance(it, bool) or not isinstance(it, (int, float)) or not math.isfinite(it):
-                raise self.fault("BadArgument", f"{name or 'its argument'} holds what is no finite number")
+                raise self.fault("BadArgument", f"{name or 'its argument'} holds what is not a finite number")
         return [self._within(name, float(it)) for it in found]  # type: ignore[arg-type]
 
     def indices(self, what: str, named: Value, count: int) -> list[int]:
-        """The points, of so many, that a face or a path of it names. Raises CsgFault."""
+        """The points, of this many, that a face or a path of it names. Raises CsgFault."""
         found: list[int] = []
         for it in named if isinstance(named, list) and named else [None]:
             if isinstance(it, bool) or not isinstance(it, float) or not 0 <= it < count:
@@ -146,7 +149,7 @@ class _Tokens:
         elif self._at == len(self._text):
             self.kind, self.word = None, ""
         else:
-            raise self.fault("this is no text as OpenSCAD writes it")
+            raise self.fault("this is not a text as OpenSCAD writes it")
         return before
 
     def take(self, symbol: str) -> None:
@@ -207,7 +210,7 @@ def _head(tokens: _Tokens, ordinal: int) -> Node:
         raise tokens.fault("a node's name should stand here")
     name = tokens.next()
     if name not in READ:
-        raise CsgFault(line, column, "UnknownModule", f"{name} is no node that is known here", ordinal)
+        raise CsgFault(line, column, "UnknownModule", f"{name} is not a node that is known here", ordinal)
     tokens.take("(")
     arguments: dict[str, Value] = {}
     while not (tokens.kind == "symbol" and tokens.word == ")"):
@@ -217,7 +220,10 @@ def _head(tokens: _Tokens, ordinal: int) -> Node:
         key, value = _argument(tokens)
         if key in arguments or not is_taken(name, key):
             # (also of a text that holds what looks like the end of it and another argument)
-            what = f"{key or 'an argument without a name'} is {'given twice' if key in arguments else 'no argument that is read here'}"
+            what = (
+                f"{key or 'an argument without a name'} is "
+                f"{'given twice' if key in arguments else 'not an argument that is read here'}"
+            )
             raise CsgFault(line_of, column_of, "BadArgument", f"{name}: {what}{INSTEAD.get((name, key), '')}", ordinal)
         arguments[key] = value
     tokens.next()
@@ -253,7 +259,7 @@ def _value(tokens: _Tokens, depth: int = 0) -> Value:
     return items
 
 
-def printed(nodes: list[Node], file_of: "dict[str, str] | None" = None) -> str:
+def printed(nodes: list[Node], file_of: dict[str, str] | None = None) -> str:
     """A text of nodes that OpenSCAD reads. Names of files are looked up in `file_of`, so that they can be made absolute."""
     return "".join(_printed(it, file_of or {}) for it in nodes)
 

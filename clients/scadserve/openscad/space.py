@@ -28,7 +28,7 @@ class Space:
         self._detail = detail
         self._plane = Plane(detail, render)
         self._render_solid = render_solid
-        self._of: Dict[str, Callable[[Node, Matrix], "Solid | None"]] = {
+        self._of: Dict[str, Callable[[Node, Matrix], Solid | None]] = {
             "cube": self._cube, "cylinder": self._cylinder, "sphere": self._sphere, "polyhedron": self._polyhedron,
             "linear_extrude": self._extruded, "rotate_extrude": self._turned, "hull": self._hull,
             "minkowski": self._minkowski, "resize": self._resized, "import": self._rendered, "surface": self._terrain,
@@ -97,7 +97,7 @@ class Space:
         if points is None:
             return None
         if not isinstance(points, list):
-            raise node.fault("BadArgument", "points is no list")
+            raise node.fault("BadArgument", "points is not a list")
         places = [(x, y, z) for x, y, z in (node.numbers("points", 3, it) for it in points)]
         return self._cut(node, matrix, places, faces_of(node, len(places)))
 
@@ -156,7 +156,8 @@ class Space:
         return Leaf(_corners(corners), frame_of(matrix), node) if corners else None
 
     def _minkowski(self, node: Node, matrix: Matrix) -> Solid | None:
-        """The sums of leaves of one child and of the next, which unions are pairs by pairs; of other joins what OpenSCAD renders."""
+        """The sums of leaves of one child and of the next, which unions are pairs by pairs; of other joins what OpenSCAD
+        renders."""
         before = self._detail.off
         sums: list[list[Vector]] = []
         off = 0.0

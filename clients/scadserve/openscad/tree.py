@@ -10,9 +10,10 @@ import math
 from collections import Counter
 from contextlib import contextmanager
 from dataclasses import dataclass, field
-from typing import Any, Generic, Iterable, Iterator, List, Optional, Sequence, TypeVar, Union, overload
+from functools import cached_property
+from typing import AbstractSet, Any, Callable, Generic, Iterable, Iterator, List, Optional, Sequence, TypeVar, Union, overload
 
-from .reader import CsgFault, Node
+from .reader import Node
 
 Vector = tuple[float, float, float]
 #: The first three rows of a matrix.
@@ -21,13 +22,15 @@ IDENTITY: Matrix = ((1.0, 0.0, 0.0, 0.0), (0.0, 1.0, 0.0, 0.0), (0.0, 0.0, 1.0, 
 UNION, DIFFERENCE, INTERSECTION = "union", "difference", "intersection"
 # More sides of slices than these have more planes than a part may have.
 _MOST_SIDES = 512
-#: More corners of a circle, and slices of an extrusion, than these are no part that can be built, nor more corners of all curves.
+#: More corners of a circle, and slices of an extrusion, than these are no part that can be built, nor more corners of all
+#: curves.
 MOST_OF_CIRCLE, MOST_SLICES, MOST_CORNERS = 10_000, 10_000, 400_000
 
 
 @dataclass(frozen=True)
 class Leaf:
-    """The convex hull of corners. `frame` is the matrix with which it was made, where that turns axes otherwise than by quarters."""
+    """The convex hull of corners. `frame` is the matrix with which it was made, where that turns axes otherwise than by
+    quarters."""
 
     corners: Sequence[Vector]
     frame: Matrix | None
@@ -42,7 +45,7 @@ class Join(Generic[L]):
     """A union, a difference or an intersection of parts, of which none is nothing."""
 
     operation: str
-    parts: "List[Union[L, Join[L]]]"
+    parts: List[Union[L, Join[L]]]
 
 
 @dataclass(frozen=True)
@@ -53,10 +56,43 @@ class Carved:
     knows the second alone.
     """
 
-    hull: "Solid"
+    hull: Solid
     #: By the leaf of a hull the corners of a lid.
-    lids: "List[tuple[Leaf, List[Vector]]]"
-    pieces: "Solid"
+    lids: List[tuple[Leaf, List[Vector]]]
+    pieces: Solid
+
+
+@dataclass(frozen=True)
+class Dented:
+    """A slice between two places of a convex outline, whose sides are two triangles each, in two forms: as the hull of its
+    corners without a dent at each hollow side, which has fewer planes and shapes, and as a union of convex parts.
+
+    The first is meant where there is no bound on planes, on a grid on which the hull has the other two triangles at each such
+    side. All else knows the second alone.
+    """
+
+    #: Its corners: those below, counterclockwise as seen from what is above, and then those above them.
+    leaf: Leaf
+    #: Of each side whether it is cut along the diagonal that goes up, and the sides at which another slice fills the dent.
+    ways: List[bool]
+    filled: AbstractSet[int]
+    make: Callable[[], Optional[Solid]]
+
+    @cached_property
+    def parts(self) -> Optional[Solid]:
+        """The convex parts; None where they are nothing."""
+        return self.make()
+
+
+@dataclass(frozen=True)
+class Sliced:
+    """What turns as it is extruded, in two forms: in few convex pieces, and in such that slices of them have simple dents.
+
+    The second is meant where there is no bound on planes. All else knows the first alone.
+    """
+
+    pieces: Solid
+    make: Callable[[], Optional[Solid]]
 
 
 @dataclass(frozen=True)
@@ -67,14 +103,14 @@ class Faced:
     """
 
     leaf: Leaf
-    faces: "List[List[int]]"
+    faces: List[List[int]]
 
 
-Part = Union[Leaf, Carved, Faced]
-Solid = Union[Leaf, Carved, Faced, "Join[Part]"]
+Part = Union[Leaf, Carved, Dented, Sliced, Faced]
+Solid = Union[Leaf, Carved, Dented, Sliced, Faced, "Join[Part]"]
 
 
-def joined(operation: str, parts: "Sequence[Optional[Union[L, Join[L]]]]") -> "Optional[Union[L, Join[L]]]":
+def joined(operation: str, parts: Sequence[Optional[Union[L, Join[L]]]]) -> Optional[Union[L, Join[L]]]:
     """The join of parts, of which None is nothing; None where that is nothing."""
     some = [it for it in parts if it is not None]
     if not some or (operation == DIFFERENCE and parts[0] is None) or (operation == INTERSECTION and len(some) < len(parts)):
@@ -86,8 +122,8 @@ def joined(operation: str, parts: "Sequence[Optional[Union[L, Join[L]]]]") -> "O
     return some[0] if len(some) == 1 else Join(operation, some)
 
 
-def _flattened(parts: "Sequence[Union[L, Join[L]]]") -> "List[Union[L, Join[L]]]":
-    found: "List[Union[L, Join[L]]]" = []
+def _flattened(parts: Sequence[Union[L, Join[L]]]) -> List[Union[L, Join[L]]]:
+    found: List[Union[L, Join[L]]] = []
     for it in parts:
         found += it.parts if isinstance(it, Join) and it.operation == UNION else [it]
     return found
@@ -95,17 +131,19 @@ def _flattened(parts: "Sequence[Union[L, Join[L]]]") -> "List[Union[L, Join[L]]]
 
 # (the first names the leaves of solids, which the second would call parts)
 @overload
-def leaves(tree: "Optional[Solid]") -> Iterable[Leaf]: ...  # type: ignore[misc]
+def leaves(tree: Optional[Solid]) -> Iterable[Leaf]: ...  # type: ignore[misc]
 
 
 @overload
-def leaves(tree: "Optional[Union[L, Join[L]]]") -> Iterable[L]: ...
+def leaves(tree: Optional[Union[L, Join[L]]]) -> Iterable[L]: ...
 
 
 def leaves(tree: Any) -> Iterable[Any]:
     """The leaves, from left to right; of a polyhedron one with all its corners."""
-    if isinstance(tree, Carved):
+    if isinstance(tree, (Carved, Sliced)):
         yield from leaves(tree.pieces)
+    elif isinstance(tree, Dented):
+        yield from leaves(tree.parts)
     elif isinstance(tree, Faced):
         yield tree.leaf
     elif isinstance(tree, Join):
@@ -115,10 +153,25 @@ def leaves(tree: Any) -> Iterable[Any]:
         yield tree
 
 
-def is_union(tree: "Optional[Union[L, Join[L]]]") -> bool:
+def outer_leaves(tree: Optional[Solid]) -> Iterator[Leaf]:
+    """The leaves among whose corners those of the design are that are farthest out: of a slice with dents its hull."""
+    if isinstance(tree, Dented):
+        yield tree.leaf
+    elif isinstance(tree, (Carved, Sliced)):
+        yield from outer_leaves(tree.pieces)
+    elif isinstance(tree, Join):
+        for it in tree.parts:
+            yield from outer_leaves(it)
+    else:
+        yield from leaves(tree)
+
+
+def is_union(tree: Optional[Union[L, Join[L]]]) -> bool:
     """Whether it is a leaf, a union of leaves, or nothing."""
-    if isinstance(tree, Carved):
+    if isinstance(tree, (Carved, Sliced)):
         return is_union(tree.pieces)
+    if isinstance(tree, Dented):
+        return True
     if isinstance(tree, Faced):
         return False
     return not isinstance(tree, Join) or (tree.operation == UNION and all(map(is_union, tree.parts)))
@@ -128,7 +181,7 @@ def matrix_of(node: Node) -> Matrix:
     """The matrix of a `multmatrix`. Raises CsgFault."""
     rows = node.arguments.get("")
     if not isinstance(rows, list) or len(rows) != 4:
-        raise node.fault("BadArgument", "its argument is no matrix of four rows")
+        raise node.fault("BadArgument", "its argument is not a matrix of four rows")
     found = [node.numbers("", 4, it) for it in rows]
     if found[3] != [0.0, 0.0, 0.0, 1.0]:
         raise node.fault("BadArgument", "its last row isn't 0, 0, 0, 1")
@@ -210,14 +263,14 @@ class Detail:
     hulls: list[Node] = field(default_factory=list)
     #: Polyhedra whose faces looked inward, and were turned.
     inward: list[Node] = field(default_factory=list)
-    #: So many sides of slices may be cut into convex parts; more have more planes than a part may have.
+    #: This many sides of slices may be cut into convex parts; more have more planes than a part may have.
     most_sides: float = _MOST_SIDES
     _besides: float = 0.0
     _sides: int = 0
     _corners: int = 0
 
     def take(self, node: Node, corners: int) -> None:
-        """Notes that a curve has so many corners, before they are made. Raises CsgFault where all have too many."""
+        """Notes that a curve has this many corners, before they are made. Raises CsgFault where all have too many."""
         self._corners += corners
         if self._corners > MOST_CORNERS:
             said = f"with it the curves of the design have {self._corners} corners, and {MOST_CORNERS} is the most"
@@ -233,7 +286,8 @@ class Detail:
 
     @contextmanager
     def moving(self, longer: float, share: float = 1.0) -> Iterator[None]:
-        """Within this, shapes are made that are then moved so that ways get so many times as long, with a share of what may be off."""
+        """Within this, shapes are made that are then moved so that ways get this many times as long, with a share of what may
+        be off."""
         before, self.off, self._besides = (self.off, self._besides, self.most), 0.0, 0.0
         self.most = self.most * share / longer if longer > 0 else self.most
         yield
@@ -241,13 +295,13 @@ class Detail:
         self._besides, self.most = before[1], before[2]
 
     def note(self, node: Node, kept: int, count: int) -> None:
-        """Notes that so many corners, or slices, of a curve are kept."""
+        """Notes that this many corners, or slices, of a curve are kept."""
         if kept < count:
             self.fewer[node.name] += 1
             self.fewest[node.name] = min(self.fewest.get(node.name, (kept, count)), (kept, count))
 
     def note_steps(self, node: Node, steps: int) -> None:
-        """Notes that an extrusion that turns on the way is so many straight steps."""
+        """Notes that an extrusion that turns on the way is this many straight steps."""
         self.steps.append((node, steps))
 
     def note_hull(self, node: Node) -> None:
@@ -261,12 +315,12 @@ class Detail:
             self.inward.append(node)
 
     def may_cut(self, sides: int) -> bool:
-        """Whether slices with so many sides may be cut into convex parts: where so few are that two planes each suffice."""
+        """Whether slices with this many sides may be cut into convex parts: where so few are that two planes each suffice."""
         self._sides += sides
         return self.cuts and self._sides <= self.most_sides
 
     def ring(self, count: int, radius: float, share: float = 1.0) -> tuple[list[int], float]:
-        """Which of so many corners of a circle are kept, and how far that is off, up to a share of what it may be.
+        """Which of this many corners of a circle are kept, and how far that is off, up to a share of what it may be.
 
         A quarter has as many as the next, so that the box stays. Of eight or fewer all are: they are no curve's.
         """
@@ -304,11 +358,13 @@ def fragments(node: Node, radius: float) -> int:
 
 
 def curve(node: Node) -> tuple[float, float, float]:
-    """A node's $fn, $fa and $fs. Of what is no extrusion OpenSCAD takes no $fa and no $fs below 0.01. Raises CsgFault."""
+    """A node's $fn, $fa and $fs. Of what is not an extrusion OpenSCAD takes no $fa and no $fs below 0.01. Raises CsgFault."""
     least = -math.inf if node.name.endswith("_extrude") else 0.01
     fn = node.arguments.get("$fn", 0.0)
     is_endless = isinstance(fn, float) and not math.isfinite(fn)
-    return math.nan if is_endless else node.number("$fn", 0.0), max(node.number("$fa", 12.0), least), max(node.number("$fs", 2.0), least)
+    return math.nan if is_endless else node.number("$fn", 0.0), max(node.number("$fa", 12.0), least), max(
+        node.number("$fs", 2.0), least
+    )
 
 
 def quotient(dividend: float, divisor: float) -> float:
@@ -317,7 +373,7 @@ def quotient(dividend: float, divisor: float) -> float:
 
 
 def bounded(node: Node, what: str, count: int, most: int) -> int:
-    """The count, of which a node makes no more than so many. Raises CsgFault."""
+    """The count, of which a node makes no more than this many. Raises CsgFault."""
     if count > most:
         raise node.fault("TooManyCorners", f"it has {count} {what}, and {most} is the most")
     return count

@@ -1,8 +1,7 @@
 """Plans that are turned round the z axis, as joins of convex leaves.
 
-A piece of a plan without a hollow side gives what its outer side bounds less what its inner side does: cones between circles, which
-share the planes of their ends.
-"""
+A piece of a plan without a hollow side gives what its outer side bounds less what its inner side does: cones between circles,
+which share the planes of their ends. """
 
 from __future__ import annotations
 
@@ -92,7 +91,8 @@ class Turned:
         return joined(UNION, [part for it in stretches for part in self._cones(it)])
 
     def _cones(self, profile: Sequence[Flat]) -> list[Solid | None]:
-        """The leaves of a stretch: one, or those of sectors of at most a half turn, which go on past the ends where they cut."""
+        """The leaves of a stretch: one, or those of sectors of at most a half turn, which go on past the ends where they cut.
+        """
         way = frame_of(self._matrix)
 
         def leaf(angles: Sequence[float], axis: bool) -> Leaf:
@@ -130,7 +130,9 @@ class Turned:
         middle = (first + last) / 2
         angles = [(first, far), (last, far)]
         # (corners out of the circle, so that no side cuts it)
-        angles += [((it + middle) / 2, far / math.cos((last - first) / 4) / math.cos((last - first) / 8)) for it in (first, last)]
+        angles += [
+            ((it + middle) / 2, far / math.cos((last - first) / 4) / math.cos((last - first) / 8)) for it in (first, last)
+        ]
         corners = [(r * math.cos(a), r * math.sin(a), z) for a, r in [*angles, (0.0, 0.0)] for z in ends]
         return Leaf(moved(self._matrix, corners), frame_of(self._matrix), self._node)
 

@@ -12,7 +12,7 @@ Source = Sequence[bytes]  # (its lines)
 
 
 class Export(NamedTuple):
-    """Where the replies to a source of so many lines are: its client, and the places of its edits and of its export."""
+    """Where the replies to a source of this many lines are: its client, and the places of its edits and of its export."""
 
     source: int
     lines: int

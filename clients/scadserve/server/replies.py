@@ -7,17 +7,13 @@ client's own commands, so an output that says something else is Malformed, and n
 from __future__ import annotations
 
 import re
-from dataclasses import dataclass
-from typing import Union
+from typing import Callable, NamedTuple, Sequence, Union
+
+from .failures import Malformed
 
 SOURCE_LINES = 4_096
 ANSWERED = 16  # (a client's shows, and its exports)
 
-COMMAND = re.compile(
-    rb"(?P<edit>put|set) (?P<at>[0-9]{1,7})(?: (?P<text>.*))?"
-    rb"|cut (?P<first>[0-9]{1,7}) (?P<last>[0-9]{1,7})|(?P<ask>show|export)",
-    re.DOTALL,
-)
 FROM_ONE, INTEGER = "[1-9][0-9]{0,9}", "(?:0|-?[1-9][0-9]*)"  # (a count of more digits comes from no server)
 COUNT = f"(?:0|{FROM_ONE})"
 REPLY = re.compile(
@@ -30,13 +26,8 @@ VERTEX = re.compile(f"(?:{INTEGER} ){{3}}[1-9][0-9]*".encode())
 FACE = re.compile(f"{COUNT}(?: {COUNT}){{3,}}".encode())
 
 
-class Malformed(Exception):
-    """An output that can't be what the script is answered."""
-
-
-@dataclass(frozen=True)
-class Ok:
-    """An edit was done, and the source has so many lines now."""
+class Ok(NamedTuple):
+    """An edit was done, and the source has this many lines now."""
 
     lines: int
 
@@ -44,8 +35,7 @@ class Ok:
         return b"ok %d\n" % self.lines
 
 
-@dataclass(frozen=True)
-class Refused:
+class Refused(NamedTuple):
     """A command was refused, and changed nothing."""
 
     word: str
@@ -54,8 +44,7 @@ class Refused:
         return b"refused %b\n" % self.word.encode()
 
 
-@dataclass(frozen=True)
-class Text:
+class Text(NamedTuple):
     """The lines of a source, as they are shown."""
 
     lines: tuple[bytes, ...]
@@ -64,8 +53,7 @@ class Text:
         return b"text %d\n" % len(self.lines) + b"".join(it + b"\n" for it in self.lines)
 
 
-@dataclass(frozen=True)
-class Solid:
+class Solid(NamedTuple):
     """A solid: its 4OFF text, and how many vertices and faces that has. The empty solid has none of either."""
 
     vertices: int
@@ -76,8 +64,7 @@ class Solid:
         return b"solid %d\n" % self.text.count(b"\n") + self.text
 
 
-@dataclass(frozen=True)
-class Fault:
+class Fault(NamedTuple):
     """The first fault of a source: its line, its byte in that line, both from 1, and its kind."""
 
     line: int
@@ -88,8 +75,7 @@ class Fault:
         return b"fault %d:%d %b\n" % (self.line, self.column, self.word.encode())
 
 
-@dataclass(frozen=True)
-class Complex:
+class Complex(NamedTuple):
     """A limit that a solid passes: `solid` or `sum` at a node, or `facets`, `corners` or `vertices`, which name no node."""
 
     kind: str
@@ -99,9 +85,14 @@ class Complex:
         return b"complex %b" % self.kind.encode() + (b"\n" if self.node is None else b" %d\n" % self.node)
 
 
-@dataclass(frozen=True)
 class NoMemory:
     """Memory ran out at a command, which counts as not given: after an edit the source is not the one that was meant."""
+
+    def __eq__(self, other: object) -> bool:
+        return isinstance(other, NoMemory)
+
+    def __hash__(self) -> int:
+        return hash(NoMemory)
 
     def __bytes__(self) -> bytes:
         return b"nomem\n"
@@ -109,6 +100,16 @@ class NoMemory:
 
 Reply = Union[Ok, Refused, Text, Solid, Fault, Complex, NoMemory]
 Answers = dict[str, list[Reply]]
+
+
+class Rule(NamedTuple):
+    """A command of a session: its name, how the rest is written, the words by which it is refused, in order, and what it does
+    to a session, with its reply. The reply None stands for one that the source decides."""
+
+    name: bytes
+    rest: re.Pattern[bytes]
+    refusals: Sequence[tuple[str, Callable[[Session, Sequence[bytes]], bool]]]
+    done: Callable[[Session, Sequence[bytes]], Reply | None]
 
 
 class Session:
@@ -120,49 +121,71 @@ class Session:
 
     def answer(self, command: bytes) -> Reply | None:
         """Does a command and gives its reply, as it is unless memory runs out. None stands for one that the source decides."""
-        words = COMMAND.fullmatch(command)
-        if words is None:
+        name = _NAME.match(command)
+        rule = next((it for it in RULES if name and it.name == name[0]), None)
+        words = rule.rest.fullmatch(command, len(rule.name)) if rule else None
+        if rule is None or words is None:
             return Refused("BadCommand")
-        if words["ask"] == b"export":
-            return self._export()
-        if words["ask"] == b"show":
-            return self._show()
-        if words["edit"] is None:
-            return self._cut(int(words["first"]), int(words["last"]))
-        at, text = int(words["at"]), words["text"] or b""
-        return self._put(at, text) if words["edit"] == b"put" else self._set(at, text)
+        given = words.groups(b"")
+        refusal = next((word for word, is_refused in rule.refusals if is_refused(self, given)), None)
+        return rule.done(self, given) if refusal is None else Refused(refusal)
 
-    def _put(self, at: int, text: bytes) -> Reply:
-        if not 1 <= at <= len(self.lines) + 1:
-            return Refused("NoSuchLine")
-        if len(self.lines) == SOURCE_LINES:
-            return Refused("TooManyLines")
-        self.lines.insert(at - 1, text)
+    def put(self, given: Sequence[bytes]) -> Reply:
+        """Puts a line before that of a number, or behind the last one."""
+        self.lines.insert(int(given[0]) - 1, given[1])
         return Ok(len(self.lines))
 
-    def _set(self, at: int, text: bytes) -> Reply:
-        if not 1 <= at <= len(self.lines):
-            return Refused("NoSuchLine")
-        self.lines[at - 1] = text
+    def set(self, given: Sequence[bytes]) -> Reply:
+        """Gives a line another text."""
+        self.lines[int(given[0]) - 1] = given[1]
         return Ok(len(self.lines))
 
-    def _cut(self, first: int, last: int) -> Reply:
-        if not 1 <= first <= last <= len(self.lines):
-            return Refused("NoSuchLine")
-        del self.lines[first - 1 : last]
+    def cut(self, given: Sequence[bytes]) -> Reply:
+        """Takes lines out."""
+        del self.lines[int(given[0]) - 1 : int(given[1])]
         return Ok(len(self.lines))
 
-    def _show(self) -> Reply:
-        if self.shows == ANSWERED:
-            return Refused("TooManyShows")
+    def show(self, _: Sequence[bytes]) -> Reply:
+        """Shows the lines."""
         self.shows += 1
         return Text(tuple(self.lines))
 
-    def _export(self) -> Reply | None:
-        if self.exports == ANSWERED:
-            return Refused("TooManyExports")
+    def export(self, _: Sequence[bytes]) -> None:
+        """Exports the source, which decides the reply."""
         self.exports += 1
-        return None
+
+
+_NAME = re.compile(rb"[a-z]+")
+_PLACE = re.compile(rb" ([0-9]{1,7})(?: (.*))?", re.DOTALL)
+_RANGE = re.compile(rb" ([0-9]{1,7}) ([0-9]{1,7})")
+_NOTHING = re.compile(b"")
+
+
+def _is_no_gap(session: Session, given: Sequence[bytes]) -> bool:
+    return not 1 <= int(given[0]) <= len(session.lines) + 1
+
+
+def _is_no_line(session: Session, given: Sequence[bytes]) -> bool:
+    return not 1 <= int(given[0]) <= len(session.lines)
+
+
+def _is_no_range(session: Session, given: Sequence[bytes]) -> bool:
+    return not 1 <= int(given[0]) <= int(given[1]) <= len(session.lines)
+
+
+#: The commands, as docs/SPECIFICATION.md has them under Sessions. A test compares the table with the cases of the server.
+RULES: Sequence[Rule] = (
+    Rule(
+        b"put",
+        _PLACE,
+        (("NoSuchLine", _is_no_gap), ("TooManyLines", lambda session, _: len(session.lines) == SOURCE_LINES)),
+        Session.put,
+    ),
+    Rule(b"set", _PLACE, (("NoSuchLine", _is_no_line),), Session.set),
+    Rule(b"cut", _RANGE, (("NoSuchLine", _is_no_range),), Session.cut),
+    Rule(b"show", _NOTHING, (("TooManyShows", lambda session, _: session.shows == ANSWERED),), Session.show),
+    Rule(b"export", _NOTHING, (("TooManyExports", lambda session, _: session.exports == ANSWERED),), Session.export),
+)
 
 
 def commands_of(script: bytes) -> dict[bytes, list[bytes]]:
@@ -226,7 +249,7 @@ def _reply(session: Session, number: int, command: bytes, left: _Output) -> Repl
     start, _, words = line.partition(b" ")
     match = REPLY.fullmatch(words)
     if start != b"%d" % number or match is None:
-        raise Malformed(f"reply {number} is no reply: {line!r}")
+        raise Malformed(f"reply {number} is not a reply: {line!r}")
     reply = _as_type(match, left)
     if isinstance(reply, NoMemory):
         return reply
@@ -236,7 +259,7 @@ def _reply(session: Session, number: int, command: bytes, left: _Output) -> Repl
     return reply
 
 
-def _as_type(match: "re.Match[bytes]", left: _Output) -> Reply:
+def _as_type(match: re.Match[bytes], left: _Output) -> Reply:
     """The reply that a first line says, with the lines that follow it."""
     if match["ok"]:
         return Ok(int(match["ok"]))
@@ -262,12 +285,12 @@ def _solid(lines: list[bytes]) -> Solid:
     if len(lines) != 2 + vertices + faces:
         raise Malformed("a 4OFF text has other counts than lines")
     if not all(map(VERTEX.fullmatch, lines[2 : 2 + vertices])):
-        raise Malformed("a 4OFF text has a line that is no vertex")
+        raise Malformed("a 4OFF text has a line that is not a vertex")
     met = 0
     for line in lines[2 + vertices :]:
         count, *corners = map(int, line.split(b" ")) if FACE.fullmatch(line) else [1]
         if count != len(corners):
-            raise Malformed("a 4OFF text has a line that is no face")
+            raise Malformed("a 4OFF text has a line that is not a face")
         for corner in corners:
             if corner > met:
                 raise Malformed("the faces of a 4OFF text have other corners than its vertices, in order")

@@ -13,19 +13,12 @@ scripts and sessions is tested before a byte is sent, and is told by the server'
 
 from __future__ import annotations
 
-import atexit
-import contextlib
-import os
 import re
-import signal
-import subprocess
-import threading
-from time import monotonic
-from types import FrameType
-from typing import Callable, Iterable, Sequence, Union
+from typing import Iterable, Sequence
 
-from ..top import TOP
-from .replies import ANSWERED, SOURCE_LINES, Answers, Complex, Fault, Malformed, NoMemory, Ok, Refused, Reply
+from .failures import BadScript, BadWords, Malformed, NotStarted, OutOfMemory, OutOfTime, ReadFault, ServerFailed, WriteFault
+from .processes import Server, Started, output, server_words
+from .replies import ANSWERED, SOURCE_LINES, Answers, Complex, Fault, NoMemory, Ok, Refused, Reply
 from .replies import Session, Solid, Text, printed, read
 
 # What a program that sends scripts needs, the types of replies too.
@@ -39,31 +32,7 @@ CLIENTS = 16
 COMMANDS = 8_192  # (of each client)
 
 NAME = re.compile("[a-z0-9]{1,16}")
-#: What is handed a process of the server once it is started.
-Started = Callable[["subprocess.Popen[bytes]"], None]
-#: A program, or words that start it.
-Server = Union[str, Sequence[str]]
 WORKERS, MEMO = range(1, 65), range(2_000_001)
-_BESIDE = os.path.join(TOP, "scadserve")
-#: The starter beside this package, or else the one on the PATH.
-SERVER = (_BESIDE if os.path.exists(_BESIDE) else "scadserve",)
-
-
-def server_of_environment() -> Sequence[str]:
-    """The server that SCADSERVE in the environment names, or the one beside the tools."""
-    return [os.environ["SCADSERVE"]] if os.environ.get("SCADSERVE") else SERVER
-
-
-def server_words(server: Server | None) -> Sequence[str]:
-    """The words that start a server; None is that of the environment. Raises TypeError and ValueError where they are none."""
-    if server is None:
-        return server_of_environment()
-    words = [server] if isinstance(server, str) else server
-    if not isinstance(words, (list, tuple)) or not all(isinstance(it, str) for it in words):
-        raise TypeError(f"a server is a program or a list of words, and not {server!r}")
-    if not words or not words[0]:
-        raise ValueError(f"a server has the name of a program, and {server!r} has none")
-    return words
 
 
 def _options(workers: int | None, memo: int | None) -> list[str]:
@@ -98,48 +67,6 @@ class Limit(ValueError):
     def __init__(self, word: str) -> None:
         super().__init__(word)
         self.word = word
-
-
-class ServerFailed(Exception):
-    """The server ended with a status other than 0, after this output. 128 and a number stand for the signal that ended it."""
-
-    def __init__(self, said: str, status: int, output: bytes = b"") -> None:
-        super().__init__(said)
-        self.status, self.output = status, output
-
-    def __reduce__(self) -> tuple[object, ...]:
-        return type(self), (str(self), self.status, self.output)
-
-
-class NotStarted(ServerFailed):
-    """The server could not be started."""
-
-
-class BadWords(ServerFailed):
-    """The words are none that the program knows."""
-
-
-class BadScript(ServerFailed):
-    """The bytes are no script; the output is the line of their first fault."""
-
-
-class ReadFault(ServerFailed):
-    """The server could not read its script."""
-
-
-class WriteFault(ServerFailed):
-    """The server could not write its output, which is not whole."""
-
-
-class OutOfMemory(ServerFailed):
-    """Memory ran out, and the output is not whole."""
-
-
-class OutOfTime(ServerFailed):
-    """The time was over, and the server was ended."""
-
-
-STATUSES = {2: BadWords, 3: BadScript, 4: ReadFault, 5: WriteFault, 6: OutOfMemory}
 
 
 class Client:
@@ -201,7 +128,7 @@ class Client:
         return range(self._commands - len(commands), self._commands)
 
     def _test(self, commands: Sequence[bytes]) -> None:
-        """Raises Limit where the script can't go on with these commands, and ValueError where one is no line."""
+        """Raises Limit where the script can't go on with these commands, and ValueError where one is not a line."""
         if any(b"\n" in it for it in commands):
             raise ValueError("a line of a source has no newline")
         if any(_is_long(self._name, it) for it in commands):
@@ -255,7 +182,7 @@ def run(
 
     `server` is a program, or words that start it; else what SCADSERVE in the environment names, or `./scadserve`.
 
-    `workers` are at most so many for an export (1 to 64, else 4), `memo` is the weight of what it keeps (0 to 2,000,000,
+    `workers` are at most this many for an export (1 to 64, else 4), `memo` is the weight of what it keeps (0 to 2,000,000,
     else 500,000), and `until` is the time of `time.monotonic` at which it is ended. `started` is handed each process, the
     first of a session of its own, so that another thread may end it. It is ended when Python ends, also by SIGTERM or SIGHUP
     where it was called by the main thread.
@@ -267,7 +194,7 @@ def run(
     if isinstance(scripts, Script):
         raise TypeError("scripts are a list: run([script])")
     words, options = server_words(server), _options(workers, memo)
-    return [read(bytes(it), _output(it, words, options, until, started)) for it in scripts]
+    return [read(bytes(it), output(words, [*["--half"] * it.half, *options], bytes(it), until, started)) for it in scripts]
 
 
 def passed_limit(lines: Sequence[bytes]) -> Fault | None:
@@ -312,91 +239,3 @@ def _is_long(name: bytes, command: bytes) -> bool:
 def _line(name: bytes, command: bytes) -> bytes:
     """A line of a script. One carriage return at its end is dropped by the server, so a text's own is written twice."""
     return b"%b %b%b\n" % (name, command, b"\r" * command.endswith(b"\r"))
-
-
-def _output(
-    script: Script, server: Sequence[str], options: Sequence[str], until: float | None, started: Started | None
-) -> bytes:
-    words = [*server, "run", *["--half"] * script.half, *options]
-    with _Signals() as signals:
-        try:
-            # In a session of its own, so that all that the server starts can be ended with it.
-            process = subprocess.Popen(words, stdin=subprocess.PIPE, stdout=subprocess.PIPE, start_new_session=True)
-        except OSError as error:
-            raise NotStarted(f"{server[0]} does not start: {error.strerror}", 127) from error
-        _UNDER_WAY[process] = os.getpid()
-        try:
-            signals.are_taken()
-            if started is not None:
-                started(process)
-            output = process.communicate(bytes(script), None if until is None else max(0, until - monotonic()))[0]
-        except BaseException as error:
-            _end(process)
-            process.communicate()
-            if isinstance(error, subprocess.TimeoutExpired):
-                raise OutOfTime("the server took too long", 128 + signal.SIGTERM) from error
-            raise
-        finally:
-            del _UNDER_WAY[process]
-    status = process.returncode if process.returncode >= 0 else 128 - process.returncode
-    if status:
-        raise STATUSES.get(status, ServerFailed)(f"the server ended with status {status}", status, output)
-    return output
-
-
-#: The processes that are under way, and the process of Python that began each: a fork of it ends none of them.
-_UNDER_WAY: dict[subprocess.Popen[bytes], int] = {}
-
-
-def _end(process: subprocess.Popen[bytes]) -> None:
-    """Ends a process with all of its session, unless its end was seen before."""
-    if process.returncode is None:
-        with contextlib.suppress(ProcessLookupError):
-            os.killpg(process.pid, signal.SIGTERM)
-
-
-@atexit.register
-def _end_all() -> None:
-    for process, of in list(_UNDER_WAY.items()):
-        if of == os.getpid():
-            _end(process)
-
-
-class _Signals:
-    """Signals that end Python, in its main thread: within this they end what is under way before, and wait while it is begun."""
-
-    def __init__(self) -> None:
-        is_main = threading.current_thread() is threading.main_thread()
-        numbers = (signal.SIGTERM, signal.SIGHUP, signal.SIGINT) if is_main else ()
-        before = {it: signal.getsignal(it) for it in numbers}
-        self._before = {number: of for number, of in before.items() if of is signal.SIG_DFL or callable(of)}
-        self._waiting: list[int] | None = []
-
-    def __enter__(self) -> _Signals:
-        for number in self._before:
-            signal.signal(number, self._take)
-        return self
-
-    def __exit__(self, *_: object) -> None:
-        for number, before in self._before.items():
-            signal.signal(number, before)
-        # (nothing was begun: they mean what they meant)
-        for waiting in self._waiting or []:
-            os.kill(os.getpid(), waiting)
-
-    def are_taken(self) -> None:
-        """Takes those that have waited, and each that comes from now on."""
-        waiting, self._waiting = self._waiting or [], None
-        for number in waiting:
-            self._take(number, None)
-
-    def _take(self, number: int, frame: FrameType | None) -> None:
-        before = self._before[signal.Signals(number)]
-        if self._waiting is not None:
-            self._waiting.append(number)
-        elif callable(before):
-            before(number, frame)
-        else:
-            _end_all()
-            signal.signal(number, signal.SIG_DFL)
-            os.kill(os.getpid(), number)

@@ -6,7 +6,7 @@ over all faces is 1 where a is inside and b outside, if both are off all face pl
 is tested here on the faces, and another way is tried where it fails. Where the point itself is on planes of faces, the way
 begins a little further on, before it meets any face.
 
-A plane of the source that has no face can't be seen on the text. What is told of a point that is on no face holds of all
+A plane of the source that has no face can't be seen on the text. What is said about a point that is on no face holds for all
 points near by that are on no such plane.
 """
 
@@ -62,7 +62,8 @@ class Crossings:
         return _corner([x, y, self._box[2][1] + _BEYOND])
 
     def crossed(self, start: Corner, end: Corner) -> int | None:
-        """The sum of the crossings of the way from a point on no face; None where it touches an edge, or ends on a face's plane."""
+        """The sum of the crossings of the way from a point on no face; None where it touches an edge, or ends on a face's
+        plane."""
         sum_of = 0
         direction = tuple(start[3] * end[i] - end[3] * start[i] for i in range(3))
         for plane, ring in self._faces:

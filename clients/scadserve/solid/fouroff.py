@@ -10,9 +10,8 @@ not looked at, nor whether the faces are the boundary of anything: `closing` tel
 from __future__ import annotations
 
 import re
-from dataclasses import dataclass
 from math import gcd
-from typing import Sequence
+from typing import NamedTuple, Sequence
 
 #: A point (X/W, Y/W, Z/W) in units, as X, Y, Z and W without a common factor, W above 0.
 Corner = tuple[int, int, int, int]
@@ -21,7 +20,7 @@ Plane = tuple[int, int, int, int]
 #: A corner seen along an axis: the point (u/w, v/w), as u, v and w.
 Flat = tuple[int, int, int]
 
-#: Coordinates are at most so many units in size.
+#: Coordinates are at most this many units in size.
 ROOM = 4096
 # The numbers of corners have 30 digits at most, since those of planes are in bounds.
 _WHOLE = r"(0|-?[1-9][0-9]{0,39})"
@@ -39,8 +38,7 @@ class Malformed(ValueError):
         self.reason = reason
 
 
-@dataclass(frozen=True)
-class Boundary:
+class Boundary(NamedTuple):
     """The boundary of a solid: its corners, its faces as numbers of corners from 0, and the plane of each face."""
 
     corners: list[Corner]
@@ -127,7 +125,7 @@ def _corners(lines: list[str]) -> list[Corner]:
 
 
 def _rings(lines: list[str], vertices: int) -> list[tuple[int, ...]]:
-    """The faces that the lines print, behind so many vertices, which are numbered by first appearance."""
+    """The faces that the lines print, behind this many vertices, which are numbered by first appearance."""
     rings = []
     appeared = 0
     for number, line in enumerate(lines, 3 + vertices):

@@ -25,7 +25,7 @@ class _Hole(NamedTuple):
     plane: Plane
 
 
-def merged(surface: Surface, nodes: "Optional[Iterable[int]]" = None) -> Surface:
+def merged(surface: Surface, nodes: Optional[Iterable[int]] = None) -> Surface:
     """The same surface with fewer triangles, where some nodes are named by taking out these alone.
 
     Raises NotClosed where faces on one plane overlap at a corner.

@@ -14,10 +14,9 @@ apart, as where a bar is twice between the same points, a point is put inside th
 from __future__ import annotations
 
 import struct
-from dataclasses import dataclass
 from fractions import Fraction
 from math import gcd
-from typing import Iterable, Sequence
+from typing import Iterable, NamedTuple, Sequence
 
 from .closing import Ring
 from .fouroff import Boundary, Corner, Plane
@@ -28,8 +27,7 @@ from .surface import Side, Surface, next_side, nodes_of, previous_side
 Printed = tuple[str, str, str]
 
 
-@dataclass(frozen=True)
-class Mesh:
+class Mesh(NamedTuple):
     """Triangles as they are written."""
 
     #: Any text that can be shown; formats of ASCII have `_` for other letters.

@@ -7,7 +7,6 @@ in a corner have nodes of their own. Numbers stay whole, so what is paired is ex
 
 from __future__ import annotations
 
-from dataclasses import dataclass
 from functools import cmp_to_key
 from typing import Sequence
 
@@ -23,19 +22,21 @@ class NotClosed(ValueError):
     """The faces of a boundary don't close it; says how."""
 
 
-@dataclass
 class Surface:
     """A surface of triangles, closed where nothing else is said."""
 
-    corners: list[Corner]
-    #: The number of the corner of each node.
-    places: list[int]
-    #: The node at which each side begins.
-    starts: list[int]
-    #: The same edge as a side of the neighbour, which goes the other way; NO_SIDE at the border of what isn't closed.
-    twins: list[Side]
-    #: The plane of each triangle, whose direction points outward.
-    planes: list[Plane]
+    def __init__(
+        self, corners: list[Corner], places: list[int], starts: list[int], twins: list[Side], planes: list[Plane]
+    ) -> None:
+        self.corners = corners
+        #: The number of the corner of each node.
+        self.places = places
+        #: The node at which each side begins.
+        self.starts = starts
+        #: The same edge as a side of the neighbour, which goes the other way; NO_SIDE at the border of what isn't closed.
+        self.twins = twins
+        #: The plane of each triangle, whose direction points outward.
+        self.planes = planes
 
     def triangle(self, number: int) -> Ring:
         """The nodes of a triangle."""

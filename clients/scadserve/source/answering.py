@@ -2,11 +2,11 @@
 
 from __future__ import annotations
 
-from dataclasses import replace
 from typing import Iterator, Sequence
 
 from ..server.batches import batches
-from ..server.scripts import SERVER, Fault, Reply, Started, run
+from ..server.processes import SERVER, Started
+from ..server.scripts import Fault, Reply, run
 from .sources import Source
 
 
@@ -29,7 +29,7 @@ def answered(
         pairs = [(sources[number], reply) for number, reply in batch.replies(answers)]
         # A file that ends in the middle of a statement has its fault in the definitions behind it: such files are
         # exported once more alone, and told their own fault.
-        alone = [replace(source, definitions=()) for source, reply in pairs if _is_behind(source, reply)]
+        alone = [source.bare() for source, reply in pairs if _is_behind(source, reply)]
         own = answered(alone, half, server, workers, memo, until, started)
         for source, reply in pairs:
             bare, bare_reply = next(own) if _is_behind(source, reply) else (source, reply)

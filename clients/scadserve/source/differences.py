@@ -64,7 +64,7 @@ def _read(text: str) -> Iterator[Form]:
 
 
 def explained(name: str) -> str | None:
-    """What is told of a form by its name; None where there is none. Raises OSError."""
+    """What is said about a form by its name; None where there is none. Raises OSError."""
     for it in forms():
         if it.name == name:
             rows = "".join(f"\n    {row.source}\n    OpenSCAD: {row.there}\n    here: {row.here}\n" for row in it.rows)

@@ -13,7 +13,7 @@ from .structure import MODULE, VARIABLE, Assignment, Call, Definition, Instance,
 
 CHECKS = (b"echo", b"assert")
 _ROUND = (b"circle", b"cylinder")
-#: OpenSCAD runs no loop over so many numbers.
+#: OpenSCAD runs no loop over this many numbers, and takes no children of this many.
 _LONG = 10_000
 
 
@@ -68,7 +68,10 @@ class Found:
     def special_arguments(self, call: Call | None) -> dict[bytes, int]:
         """The special names that a call gives, each with its token."""
         given = call.arguments if call is not None else []
-        return {self.text(it.first): it.first for it in given if self.tokens[it.first].is_special() and self.text(it.first + 1) == b"="}
+        return {
+            self.text(it.first): it.first
+            for it in given if self.tokens[it.first].is_special() and self.text(it.first + 1) == b"="
+        }
 
     @cached_property
     def assigned(self) -> Mapping[int, list[Assignment]]:
@@ -132,7 +135,9 @@ class Found:
         """The instances by their cores."""
         return {it.core: it for it in self.structure.instances}
 
-    def _closed(self, it: Definition, known: dict[int, frozenset[bytes]], own: Callable[[Definition], set[bytes]]) -> frozenset[bytes]:
+    def _closed(
+        self, it: Definition, known: dict[int, frozenset[bytes]], own: Callable[[Definition], set[bytes]]
+    ) -> frozenset[bytes]:
         """What a definition and those that it calls have of their own."""
         if id(it) not in known:
             reached, found = [it], own(it)
@@ -210,11 +215,24 @@ def _joined_by_index(found: Found) -> Iterator[tuple[Instance, Span]]:
             yield it, it.call.arguments[0]
 
 
+def _is_missing(found: Found, it: Instance) -> bool:
+    """Whether it is a call of `children` in no module, or one whose index some call has no child for: none has one for an
+    index below 0, and a call without children has none for any. (Of a list of indexes OpenSCAD makes a child.)"""
+    if it.call is None or not found.is_built_in(it, b"children"):
+        return False
+    module = found.module_around(it.core)
+    if module is None or not it.call.arguments:
+        return module is None
+    given = it.call.arguments[0]
+    index = found.numbers(given)
+    least = index if isinstance(index, int) else 0
+    counts = [len(found.children(call)) for call in found.calls_to.get(id(module), [])]
+    return found.text(given.first) != b"[" and any(count <= least or least < 0 for count in counts)
+
+
 def _missing_child(found: Found) -> Iterator[int]:
-    for it, span in _joined_by_index(found):
-        index = found.numbers(span)
-        calls = found.calls_to.get(id(found.module_around(it.core)), [])
-        if isinstance(index, int) and any(len(found.children(call)) <= index for call in calls):
+    for it in found.structure.instances:
+        if found.is_of_join(it) and _is_missing(found, it):
             yield it.core
 
 
@@ -226,10 +244,13 @@ def _intersection_for(found: Found) -> Iterator[int]:
 
 def _long_range(found: Found) -> Iterator[int]:
     for it in found.structure.instances:
+        spans: Sequence[Span] = []
         if found.text(it.core) in (b"for", b"intersection_for") and it.scope is not None:
-            for at in range(it.core, it.scope.first):
-                if found.text(at) == b"[" and _length(found, at) >= _LONG:
-                    yield at
+            spans = [Span(it.core, it.scope.first)]
+        elif found.is_built_in(it, b"children") and it.call is not None:
+            spans = [value for _, value in found.arguments(it.call)]
+        for span in spans:
+            yield from (at for at in range(span.first, span.last) if found.text(at) == b"[" and _length(found, at) >= _LONG)
 
 
 def _length(found: Found, at: int) -> int:
@@ -272,7 +293,9 @@ def _children_counted(found: Found) -> Iterator[int]:
 
 def _counts_children(found: Found, module: Definition) -> bool:
     calls = (it for it in found.calls_in(module.body) if found.text(it.name) == b"children")
-    return any(found.text(at) == b"$children" for at in range(module.body.first, module.body.last + 1)) or any(it.arguments for it in calls)
+    return any(found.text(at) == b"$children" for at in range(module.body.first, module.body.last + 1)) or any(
+        it.arguments for it in calls
+    )
 
 
 def _special_to_join(found: Found) -> Iterator[int]:
@@ -283,22 +306,40 @@ def _special_to_join(found: Found) -> Iterator[int]:
 
 def _marked_check(found: Found) -> Iterator[int]:
     for it in found.structure.instances:
-        if found.is_check(it) and b"!" in found.marks(it):
+        is_none = found.is_check(it) or (found.text(it.core) == b"if" and not it.has_else) or _is_missing(found, it)
+        if is_none and b"!" in found.marks(it):
             yield next(at for at in range(it.first, it.core) if found.text(at) == b"!")
 
 
 def _marked_background(found: Found) -> Iterator[int]:
     marked = [it for it in found.structure.instances if b"!" in found.marks(it) and b"*" not in found.marks(it)]
     for it in found.structure.instances:
-        if b"%" in found.marks(it) and any(it.has(other.core) for other in marked):
-            yield it.first
+        if marked and b"%" in found.marks(it):
+            spans = _evaluated_by(found, it)
+            if any(span.has(other.core) for span in spans for other in marked):
+                yield it.first
+
+
+def _evaluated_by(found: Found, it: Instance) -> list[Span]:
+    """What may be evaluated with an instance: the modules that it calls, and what `children` in it stands for, too."""
+    spans = [Span(it.first, it.last)]
+    for span in spans:
+        for call in found.calls_in(span):
+            meant = found.meant(call)
+            more = [meant.body] if meant is not None else []
+            if meant is None and found.text(call.name) == b"children":
+                more = [Span(one.first, one.last) for one in found.calls_to.get(id(found.module_around(call.name)), [])]
+            spans += (one for one in more if not any((one.first, one.last) == (known.first, known.last) for known in spans))
+    return spans
 
 
 def _polygon_twice(found: Found) -> Iterator[int]:
     for it in found.structure.instances:
         if found.is_built_in(it, b"polygon") and it.call is not None:
-            points = next((found.numbers(value) for name, value in found.arguments(it.call) if name in (b"", b"points")), None)
-            if isinstance(points, list) and _turns(points) > 1:
+            given = [found.numbers(value) for name, value in found.arguments(it.call) if name in (b"", b"points")]
+            # (one of paths is refused here)
+            is_plain = len(given) == 1 and all(name != b"paths" for name, _ in found.arguments(it.call))
+            if is_plain and isinstance(given[0], list) and _turns(given[0]) > 1:
                 yield it.core
 
 
@@ -424,7 +465,9 @@ def _names_of_texts(found: Found) -> tuple[set[bytes], set[bytes]]:
     for instance in found.structure.instances:
         if instance.call is None and instance.scope is not None:
             span = range(instance.core, instance.scope.first)
-            others |= {found.text(at) for at in span if found.text(at + 1) == b"=" and found.structure.roles.get(at) == VARIABLE}
+            others |= {
+                found.text(at) for at in span if found.text(at + 1) == b"=" and found.structure.roles.get(at) == VARIABLE
+            }
     return texts, others
 
 

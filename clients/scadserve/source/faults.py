@@ -19,10 +19,12 @@ NO_TYPE = 'is_num, is_list and is_undef ask for it before; "4" is a text, and 4 
 
 # Of each kind of fault what is wrong, in which {} stands for the token at its place, and its cure.
 FAULTS: dict[str, tuple[str, str]] = {
-    "BadCharacter": ("{} can't stand here", "any byte may stand in comments; all else is plain ASCII, without a byte order mark"),
+    "BadCharacter": (
+        "{} can't stand here", "any byte may stand in comments; all else is plain ASCII, without a byte order mark"
+    ),
     "OpenComment": ("this comment is not closed", "close it by */"),
     "OpenText": ("this text is not closed on its line", 'close it by " on the same line'),
-    "NotWhole": ("{} is no whole number", "write lengths in tenths, 25 for 2.5, and print by off2stl --unit 1/10"),
+    "NotWhole": ("{} is not a whole number", "write lengths in tenths, 25 for 2.5, and print by off2stl --unit 1/10"),
     "TooLarge": ("{} is past 2^53 - 1", "take smaller numbers: the room ends at 4,095"),
     "TypeMismatch": ("a value of another type is wanted at {}", PAGE),
     "ZeroDivisor": ("a division by 0", "test the divisor first: b == 0 ? 0 : a / b"),
@@ -55,7 +57,7 @@ FAULTS: dict[str, tuple[str, str]] = {
         "a flat shape stands where a solid is wanted, or a solid where a flat shape is",
         "linear_extrude(1) makes a solid of flat shapes, and holds flat shapes alone",
     ),
-    "NotQuarter": ("the angle is no multiple of 90", "turn by quarters, or by a multmatrix of whole numbers"),
+    "NotQuarter": ("the angle is not a multiple of 90", "turn by quarters, or by a multmatrix of whole numbers"),
     "Singular": ("this transform would flatten space", "no factor may be 0, nor a matrix's determinant"),
     "TooManyParts": ("more than 1,024 shapes", "make several parts of it"),
     "TooManyPlanes": ("the part has more than 1,024 distinct planes", "make several parts of it"),
@@ -93,7 +95,7 @@ LIMITS: dict[str, tuple[str, str]] = {
     "NoSuchLine": ("the source has no such line", "lines are numbered from 1"),
     "TooManyShows": ("a client is shown its lines 16 times at most", "use another client"),
     "TooManyExports": ("a client exports 16 times at most", "use another client"),
-    "BadCommand": ("this is no command", "docs/SPECIFICATION.md has the commands"),
+    "BadCommand": ("this is not a command", "docs/SPECIFICATION.md has the commands"),
     "NoName": ("a line begins with no client's name", "names have 1 to 16 of a to z and 0 to 9"),
     "TooManyClients": ("a script has at most 16 clients", "use several scripts"),
     "TooManyCommands": ("a client has at most 8,192 commands", "use several clients"),
@@ -106,7 +108,9 @@ FILES: dict[str, tuple[str, str]] = {
     "TooManyFiles": ("more than 1,024 files, or 64 in one another", "join some of them"),
     "TooLarge": ("with this file the source is more than a script's 1 MiB", "make several parts of it"),
     "OpenComment": FAULTS["OpenComment"],
-    "BadUnit": ("{} is no number above 0 like 2, 25.4 or 1/10", "write // unit: 1/10 once, of a millimetre, or call with --unit 1/10"),
+    "BadUnit": (
+        "{} is not a number above 0 like 2, 25.4 or 1/10", "write // unit: 1/10 once, of a millimetre, or call with --unit 1/10"
+    ),
 }
 
 # Of solids that pass a limit, by its kind.
@@ -123,7 +127,7 @@ COMPLEX: dict[str, tuple[str, str]] = {
 # Of statuses with which the server fails.
 STATUSES: dict[int, str] = {
     2: ", since it does not know these words",
-    3: ", since what it was sent is no script",
+    3: ", since what it was sent is not a script",
     4: ", since it could not read what it was sent",
     5: ", since it could not write its output",
     6: ", since memory ran out: convert fewer files at once",
@@ -147,7 +151,9 @@ TOKEN = re.compile(
 
 def cure_by_openscad(word: str, cure: str) -> str:
     """The cure of a fault, with the way that OpenSCAD's front end is where the profile's limits are the cause."""
-    return f"{cure}; or let OpenSCAD evaluate it: --by-openscad" if word in ("NotWhole", "NotInProfile", "UnknownFunction") else cure
+    return f"{cure}; or let OpenSCAD evaluate it: --by-openscad" if word in (
+        "NotWhole", "NotInProfile", "UnknownFunction"
+    ) else cure
 
 
 def what_is_wrong(word: str, line: bytes | None, column: int) -> tuple[str, str]:
@@ -201,8 +207,8 @@ def printable(text: bytes) -> str:
 
 
 def excerpt(line: bytes, column: int) -> str:
-    """The part of a line that is near to a byte of it, from 1, and a line with a caret below that byte; its beginning alone where
-    the byte is 0, which is none."""
+    """The part of a line that is near to a byte of it, from 1, and a line with a caret below that byte; its beginning alone
+    where the byte is 0, which is none."""
     if column == 0:
         return f"    {printable(line[:120].rstrip())}\n"
     first = max(0, column - 61)

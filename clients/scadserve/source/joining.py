@@ -10,19 +10,17 @@ from __future__ import annotations
 import os
 import re
 import stat
-from dataclasses import dataclass, field
 from typing import NamedTuple, Sequence
 
 from ..files import called, read_file, reason
 from ..top import LIBRARY
-from .faults import FILES
 from .sources import Line, Origin, Refused, Spot
 from .tokens import PIECE
 
 #: A source that is larger than a script is past a limit.
 MOST_BYTES = 1_048_576
 MOST_FILES, MOST_NESTED = 1_024, 64
-# (what is more is told of the file at hand, before all of it fills the memory)
+# (more than that is a fault of the file at hand, before all of it fills the memory)
 MOST_LINES = 16 * 4_096
 
 WORD = rb"(?P<word>include|use)[ \t\r\n]*<(?P<file>[^\t\r\n>]+)>"
@@ -52,24 +50,25 @@ class File(NamedTuple):
 
     def refused(self, at: int, word: str, said: str | None = None) -> Refused:
         """The fault of this kind at a byte."""
+        # (what tells faults is loaded where there is one, so that the tools are quicker to start)
+        from .faults import FILES
+
         what, cure = FILES[word]
         return Refused(self.spot(at), word, said or what, cure, self.origin)
 
 
-@dataclass
 class Joined:
     """A file with all that it includes, and the files that it uses, in order."""
 
-    file: File
-    lines: list[Line] = field(default_factory=list)
-    uses: list[File] = field(default_factory=list)
-    #: How many brackets are open behind these lines, and the last token in them.
-    deep: int = 0
-    last: bytes = b";"
-    #: How many bytes these lines have.
-    size: int = 0
-    #: The lines that are assigned behind them.
-    behind: Sequence[bytes] = ()
+    def __init__(self, file: File, lines: Sequence[Line] = ()) -> None:
+        self.file, self.lines = file, list(lines)
+        self.uses: list[File] = []
+        #: How many brackets are open behind these lines, and the last token in them.
+        self.deep, self.last = 0, b";"
+        #: How many bytes these lines have.
+        self.size = 0
+        #: The lines that are assigned behind them.
+        self.behind: Sequence[bytes] = ()
 
 
 def folders_of_environment() -> list[str]:
@@ -82,8 +81,7 @@ class Folders:
     bounded by what a script may have, or not. Where `roots` are given, which have no links in them, no file is there but the
     ordinary ones below these and those of the library."""
 
-    def __init__(self, folders: Sequence[str], is_bounded: bool = True, roots: Sequence[str] | None = None) -> None:
-        self._is_bounded = is_bounded
+    def __init__(self, folders: Sequence[str], roots: Sequence[str] | None = None) -> None:
         self._folders = [*folders, *folders_of_environment(), LIBRARY]
         self._roots = None if roots is None else [*roots, os.path.realpath(LIBRARY)]
         self._read = 0
@@ -110,12 +108,12 @@ class Folders:
             data = self._bytes_of(path)
         except OSError as error:
             raise file.refused(at, "NoFile", f"{path} can't be opened: {reason(error)}") from None
-        if self._is_bounded and len(data) > MOST_BYTES:
+        if len(data) > MOST_BYTES:
             raise file.refused(at, "TooLarge", f"{path} has more than a script's 1 MiB")
         return File(path, path, data, Origin(file.spot(at), word, file.origin))
 
     def _bytes_of(self, path: str) -> bytes:
-        return read_file(path, MOST_BYTES + 1 if self._is_bounded else -1)
+        return read_file(path, MOST_BYTES + 1)
 
     def _is_there(self, path: str) -> bool:
         if self._roots is None:
@@ -152,7 +150,7 @@ class Folders:
             elif self._add(joined, found, (*opened, found.identity())):
                 start = skipped = _end_of_line(file.data, start)
                 is_comment = True
-            if self._is_bounded and (len(joined.lines) > MOST_LINES or joined.size > MOST_BYTES):
+            if len(joined.lines) > MOST_LINES or joined.size > MOST_BYTES:
                 raise file.refused(piece.start(), "TooLarge")
         _add_lines(joined, file, start, len(file.data))
         return is_comment

@@ -7,7 +7,6 @@ from typing import Sequence
 from .joining import File, Folders
 from .sources import Source
 from .tokens import tokens
-from .using import with_uses
 
 
 def read_source(file: str, definitions: Sequence[str] = (), folders: Sequence[str] = ()) -> Source:
@@ -25,19 +24,29 @@ def source_of(data: bytes, name: str, definitions: Sequence[str] = (), folders: 
 def source_within(
     data: bytes, file: str, definitions: Sequence[str], folders: Sequence[str], roots: Sequence[str]
 ) -> Source:
-    """The same of these bytes as the text of a file, be it there or not, which names no file but those below these roots."""
+    """The same of these bytes as the text of a file, whether it exists or not, which names no file but those below these
+    roots."""
     return joined_source(Folders(folders, roots=roots), File(file, file, data), definitions)
 
 
 def joined_source(there: Folders, first: File, definitions: Sequence[str] = ()) -> Source:
     """The same of a file that was read already. Raises Refused."""
     source = Source(first.name, [], definitions, len(first.data.removesuffix(b"\n").split(b"\n")) if first.data else 0)
-    source.lines = with_uses(there, there.join(first), source.sent())
+    joined = there.join(first)
+    if not joined.uses:
+        source.lines = joined.lines
+        return source
+    # (what tells names of files apart is loaded where a source uses one, so that the tools are quicker to start)
+    from .using import with_uses
+
+    source.lines = with_uses(there, joined, source.sent())
     return source
 
 
 def unused(source: Source) -> list[str]:
     """The names that are assigned behind a source, and that it never has."""
+    if not source.definitions:
+        return []
     own = [it.sent for it in source.lines if not it.is_used()]
     found = {it.text.decode("ascii", "replace") for it in tokens(own) if it.is_name()} | {"$fn", "$fa", "$fs"}
     names = [it.partition("=")[0].strip() for it in source.definitions]

@@ -1,4 +1,4 @@
-"""How a text is built that is no program yet, as far as that can be told: for editors, while one types.
+"""How a text is built that is not a program yet, as far as that can be told: for editors, while one types.
 
 What is wrong with a statement is skipped, up to a place where another one seems to begin, and brackets that are open at the end
 are taken as closed there.
@@ -76,6 +76,6 @@ class _Recovering(Reader):
 
 
 def structure_as_far(tokens: Sequence[Token]) -> tuple[Structure, list[NoProgram]]:
-    """How the text of these tokens is built as far as that can be told, and where it is no program; nowhere if it is one."""
+    """How the text of these tokens is built as far as that can be told, and where it is not a program; nowhere if it is one."""
     reader = _Recovering(tokens)
     return reader.program(), reader.faults

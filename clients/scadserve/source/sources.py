@@ -2,14 +2,13 @@
 
 from __future__ import annotations
 
-from dataclasses import dataclass
 from fractions import Fraction
-from typing import Callable, NamedTuple, Sequence
+from typing import Callable, NamedTuple, Optional, Sequence
 
 from ..server.replies import Solid
 
-#: The unit of a source that says none.
-MILLIMETRE = Fraction(1)
+#: What makes a solid of a large source: it is handed the words of a server, how many parts side by side, and the time.
+Maker = Callable[[Sequence[str], Optional[int], Optional[float]], Solid]
 
 
 class Spot(NamedTuple):
@@ -72,19 +71,28 @@ class Line(NamedTuple):
         return Spot(self.file, self.number, column + shift, self.text)
 
 
-@dataclass
 class Source:
     """A source as it is sent: its name in messages, its lines, those of what it includes and uses too, the NAME=VALUE
     that are assigned behind them, what each of these is called there, and how many lines the file itself has."""
 
-    name: str
-    lines: list[Line]
-    definitions: Sequence[str] = ()
-    own_lines: int = 0
-    #: How many millimetres a length of the file is, by an option or a comment; None where nothing says it, or nobody asked.
-    unit: Fraction | None = None
-    #: How many lengths of the file a length of what is sent is: the step of the grid, where OpenSCAD has evaluated the file.
-    step: Fraction = Fraction(1)
+    def __init__(
+        self,
+        name: str,
+        lines: list[Line],
+        definitions: Sequence[str] = (),
+        own_lines: int = 0,
+        unit: Fraction | None = None,
+        step: Fraction = Fraction(1),
+    ) -> None:
+        self.name, self.lines, self.definitions, self.own_lines = name, lines, definitions, own_lines
+        #: How many millimetres a length of the file is, by an option or a comment; None where nothing says it, or nobody asked.
+        self.unit = unit
+        #: How many lengths of the file a length of what is sent is: the step of the grid, where OpenSCAD evaluated the file.
+        self.step = step
+
+    def bare(self) -> Source:
+        """The same source with nothing assigned behind it."""
+        return Source(self.name, self.lines, (), self.own_lines, self.unit, self.step)
 
     def sent(self) -> list[bytes]:
         """The lines that the server is sent."""
@@ -109,17 +117,17 @@ class Source:
         return None if self.is_at_end(line) else self.lines[line - 1].origin
 
 
-@dataclass
 class LargeSource(Source):
     """A source that isn't sent, since its design passes a limit: it has comments alone. Its solid is put together of parts,
-    which are made by a server, that its words start, so many of them side by side, until a time at which these are ended."""
+    which are made by a server, that its words start, this many of them side by side, until a time at which these are ended."""
 
-    make: Callable[[Sequence[str], int | None, float | None], Solid] | None = None
+    def __init__(self, name: str, lines: list[Line], unit: Fraction | None, step: Fraction, make: Maker) -> None:
+        super().__init__(name, lines, (), len(lines), unit, step)
+        self._make = make
 
     def solid(self, server: Sequence[str], jobs: int | None = None, until: float | None = None) -> Solid:
         """Its solid. Raises Refused, Malformed, and what `run` of `server` raises."""
-        assert self.make is not None
-        return self.make(server, jobs, until)
+        return self._make(server, jobs, until)
 
 
 class Refused(Exception):

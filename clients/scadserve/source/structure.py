@@ -1,12 +1,11 @@
 """How a source is built: its scopes, what they define and assign, and what each name stands for.
 
 Statements are read as docs/SPECIFICATION.md has them, and expressions by their brackets alone, since only names matter here.
-The server reads all of it again: what is no program is its fault to tell.
+The server reads all of it again: what is not a program is its fault to tell.
 """
 
 from __future__ import annotations
 
-from dataclasses import dataclass, field
 from typing import NoReturn, Sequence
 
 from .tokens import Token
@@ -26,90 +25,86 @@ class NoProgram(Exception):
         self.at, self.word = at, word
 
 
-@dataclass
 class Span:
     """Tokens from a first to a last number."""
 
-    first: int
-    last: int
+    def __init__(self, first: int, last: int) -> None:
+        self.first, self.last = first, last
 
     def has(self, at: int) -> bool:
         """Whether a token is one of these."""
         return self.first <= at <= self.last
 
 
-@dataclass
 class Definition(Span):
     """A module or a function: the numbers of its name and its parameters, its body or value, and the scope that it stands in
     and its own, which has the parameters."""
 
-    kind: str
-    name: int
-    parameters: list[int]
-    body: Span
-    scope: Scope
-    own: Scope
+    def __init__(self, span: Span, kind: str, name: int, parameters: list[int], body: Span, scope: Scope, own: Scope) -> None:
+        super().__init__(span.first, span.last)
+        self.kind, self.name, self.parameters, self.body, self.scope, self.own = kind, name, parameters, body, scope, own
 
 
-@dataclass
 class Assignment(Span):
     """An assignment: the number of its name, and the scope that it stands in."""
 
-    name: int
-    scope: Scope
+    def __init__(self, first: int, last: int, name: int, scope: Scope) -> None:
+        super().__init__(first, last)
+        self.name, self.scope = name, scope
 
 
-@dataclass
 class Call(Span):
-    """A name with arguments in brackets, behind which a module's body is no part of it: each argument, and its name."""
+    """A name with arguments in brackets, behind which a module's body is not part of it: each argument, and its name."""
 
-    kind: str
-    name: int
-    arguments: list[Span] = field(default_factory=list)
+    def __init__(self, first: int, last: int, kind: str, name: int) -> None:
+        super().__init__(first, last)
+        self.kind, self.name = kind, name
+        self.arguments: list[Span] = []
 
 
-@dataclass(eq=False)
 class Scope(Span):
     """A scope, the one around it, and what it binds: of each kind and name the numbers of the tokens, in order. A parameter is
     a variable here. So are the variables of a loop, each in a scope of its own, in which those behind it are and the body."""
 
-    around: Scope | None
-    #: Of an assignment's value: it sees no variable that the scope around it binds from this token on.
-    before: int | None = None
-    #: Of a function: it may be called while the scope around it has not bound all of its variables.
-    is_function: bool = False
-    bound: dict[tuple[str, bytes], list[int]] = field(default_factory=dict)
+    def __init__(self, at: int, around: Scope | None, before: int | None, is_function: bool) -> None:
+        super().__init__(at, at)
+        self.around = around
+        #: Of an assignment's value: it sees no variable that the scope around it binds from this token on.
+        self.before = before
+        #: Of a function: it may be called while the scope around it has not bound all of its variables.
+        self.is_function = is_function
+        self.bound: dict[tuple[str, bytes], list[int]] = {}
 
 
-@dataclass(eq=False)
 class Instance(Span):
     """An instance: its marks stand before its core, which is its name or keyword. The instance around it, its arguments, the
     scope of its first body, and the instances in its bodies that stand in no definition there."""
 
-    core: int
-    around: Instance | None
-    call: Call | None = None
-    scope: Scope | None = None
-    has_else: bool = False
-    children: list[Instance] = field(default_factory=list)
+    def __init__(self, at: int, around: Instance | None) -> None:
+        super().__init__(at, at)
+        self.core, self.around = at, around
+        self.call: Call | None = None
+        self.scope: Scope | None = None
+        self.has_else = False
+        self.children: list[Instance] = []
 
 
-@dataclass
 class Structure:
     """What is found in a source."""
 
-    tokens: Sequence[Token]
-    roles: dict[int, str] = field(default_factory=dict)
-    #: In which scope each name is bound or looked for, but for names of arguments.
-    places: dict[int, Scope] = field(default_factory=dict)
-    scopes: list[Scope] = field(default_factory=list)
-    definitions: list[Definition] = field(default_factory=list)
-    #: Those of the program's own scope.
-    assignments: list[Assignment] = field(default_factory=list)
-    #: Those of all other scopes.
-    inner_assignments: list[Assignment] = field(default_factory=list)
-    instances: list[Instance] = field(default_factory=list)
-    calls: list[Call] = field(default_factory=list)
+    def __init__(self, tokens: Sequence[Token]) -> None:
+        self.tokens = tokens
+        self.roles: dict[int, str] = {}
+        #: In which scope each name is bound or looked for, but for names of arguments.
+        self.places: dict[int, Scope] = {}
+        self.scopes: list[Scope] = []
+        self.definitions: list[Definition] = []
+        #: Those of the program's own scope.
+        self.assignments: list[Assignment] = []
+        #: Those of all other scopes.
+        self.inner_assignments: list[Assignment] = []
+        self.instances: list[Instance] = []
+        self.calls: list[Call] = []
 
     def text(self, at: int) -> bytes:
         """The bytes of a token, none behind the last."""
@@ -146,7 +141,7 @@ class Reader:
 
     def _opened(self, around: Scope | None, before: int | None = None, is_function: bool = False) -> Scope:
         """A scope that begins here, and is the one at hand now."""
-        self._scope = Scope(self._at, self._at, around, before, is_function)
+        self._scope = Scope(self._at, around, before, is_function)
         self.found.scopes.append(self._scope)
         return self._scope
 
@@ -234,7 +229,7 @@ class Reader:
         parameters = self._parameters()
         self._close(scope)
         body, own = Span(self._at, self._at - 1), self._opened(scope, is_function=kind == FUNCTION)
-        found = Definition(first, self._at - 1, kind, name, parameters, body, scope, own)
+        found = Definition(Span(first, self._at - 1), kind, name, parameters, body, scope, own)
         self.found.definitions.append(found)
         self._bind_all(parameters)
         if kind == MODULE:
@@ -267,7 +262,7 @@ class Reader:
         return found
 
     def _instance(self) -> None:
-        found = Instance(self._at, self._at, self._at, self._around)
+        found = Instance(self._at, self._around)
         self.found.instances.append(found)
         if self._around is not None:
             self._around.children.append(found)

@@ -2,41 +2,19 @@
 
 from __future__ import annotations
 
-import os
 import re
-from argparse import ArgumentTypeError
 from fractions import Fraction
-from typing import Iterator, NamedTuple, Sequence
+from typing import Iterable, Iterator, NamedTuple, Sequence
 
-from .faults import FILES
-from .joining import File, Folders
-from .sources import MILLIMETRE as MILLIMETRE
+from .lengths import unit_of_text
 from .sources import Line, Origin, Refused, Source, Spot
 from .tokens import PIECE
 
-_DECIMAL = r"(?:[0-9]{1,9}(?:\.[0-9]{0,9})?|\.[0-9]{1,9})(?:[eE][-+]?[0-9]{1,2})?"
-_NUMBER = re.compile(rf"{_DECIMAL}|[0-9]{{1,9}}/0*[1-9][0-9]{{0,8}}")
-_MOST = 10**9
-_IS_NONE = "is no number above 0 and below 10^9 like 2, 25.4 or 1/10"
 _SAYS = rb"(?P<says>unit:[ \t]*(?P<unit>.*?))"
 #: A comment to the end of its line that says a unit, and a line of another comment that does.
 _LINE = re.compile(rb"\A//[ \t]*" + _SAYS + rb"[ \t\r]*\Z", re.IGNORECASE)
 _BLOCK = re.compile(rb"(?:/\*|\n)[ \t*]*" + _SAYS + rb"[ \t\r*]*(?=\n|\*/)", re.IGNORECASE)
 _ANY = re.compile(rb"unit:", re.IGNORECASE)
-
-
-def unit_argument(text: str) -> Fraction:
-    """The unit that an option says. Raises ArgumentTypeError."""
-    unit = _unit(text)
-    if unit is None:
-        raise ArgumentTypeError(f"{text!r} {_IS_NONE}")
-    return unit
-
-
-def _unit(text: str) -> Fraction | None:
-    """A length above 0, written as a whole number, a decimal number or a fraction; None where it is none."""
-    unit = Fraction(text) if _NUMBER.fullmatch(text) else Fraction(0)
-    return unit if 0 < unit < _MOST else None
 
 
 def unit_of(source: Source) -> Fraction | None:
@@ -45,7 +23,7 @@ def unit_of(source: Source) -> Fraction | None:
     A comment says `unit:`, in small or large letters, and a number, with `mm` behind it or not. Raises Refused at one that
     says something else, or another unit than the one before.
     """
-    return _unit_of(source.lines)
+    return unit_said(_said(source.lines))
 
 
 def with_unit(source: Source, unit: Fraction | None = None) -> Source:
@@ -54,24 +32,7 @@ def with_unit(source: Source, unit: Fraction | None = None) -> Source:
     return source
 
 
-def unit_of_file(file: str, folders: Sequence[str] = ()) -> Fraction | None:
-    """The same of a file that OpenSCAD reads: it may be of any size, and an included file that isn't there is told by
-    OpenSCAD. Raises OSError and Refused."""
-    there = _AsOpenscad(folders, is_bounded=False)
-    return _unit_of(there.join(there.first(file)).lines)
-
-
-class _AsOpenscad(Folders):
-    """Finds what OpenSCAD finds, and takes a file that isn't there for an empty one."""
-
-    def find(self, file: File, at: int, word: str, named: str, opened: Sequence[str]) -> File:
-        try:
-            return super().find(file, at, word, named, opened)
-        except Refused:
-            return File(os.devnull, os.devnull, b"")
-
-
-class _Said(NamedTuple):
+class Said(NamedTuple):
     """A comment that says a unit: where it stands, where its file is included, and what it says."""
 
     spot: Spot
@@ -79,29 +40,37 @@ class _Said(NamedTuple):
     unit: bytes
 
 
-def _unit_of(lines: Sequence[Line]) -> Fraction | None:
+def unit_said(comments: Iterable[Said]) -> Fraction | None:
+    """The unit that all of these comments say; None where there is none. Raises Refused."""
     unit: Fraction | None = None
     first = ""
-    for spot, origin, said in _said(lines):
+    for spot, origin, said in comments:
         shown = said.decode("utf-8", "backslashreplace")
-        own = _unit(shown.removesuffix("mm").rstrip(" \t"))
-        what, cure = FILES["BadUnit"]
-        if own is None:
-            raise Refused(spot, "BadUnit", what.format(shown), cure, origin)
-        if unit not in (None, own):
-            raise Refused(spot, "BadUnit", f"{first} says another unit, {unit}", cure, origin)
+        own = unit_of_text(shown.removesuffix("mm").rstrip(" \t"))
+        if own is None or unit not in (None, own):
+            # (what tells faults is loaded where there is one, so that the tools are quicker to start)
+            from .faults import FILES
+
+            what, cure = FILES["BadUnit"]
+            why = what.format(shown) if own is None else f"{first} says another unit, {unit}"
+            raise Refused(spot, "BadUnit", why, cure, origin)
         unit, first = own, f"{spot.file}:{spot.line}"
     return unit
 
 
-def _said(lines: Sequence[Line]) -> Iterator[_Said]:
+def says(comment: re.Match[bytes]) -> Iterator[tuple[int, bytes]]:
+    """What a comment, a piece of a text, says of units, each with its place in the text."""
+    is_line = comment[0].startswith(b"//")
+    for it in (_LINE if is_line else _BLOCK).finditer(comment[0]):
+        yield comment.start() + (0 if is_line else it.start("says")), it["unit"]
+
+
+def _said(lines: Sequence[Line]) -> Iterator[Said]:
     """What comments say of units, in order; what a used file has in its definitions isn't said of the source."""
     text = b"\n".join(b"" if it.is_used() else it.sent for it in lines)
     if not _ANY.search(text):
         return
     for piece in PIECE.finditer(text):
-        is_line = piece[0].startswith(b"//")
-        for it in (_LINE if is_line else _BLOCK).finditer(piece[0]) if piece["gap"] else ():
-            at = piece.start() + (0 if is_line else it.start("says"))
+        for at, unit in says(piece) if piece["gap"] else ():
             line = lines[text.count(b"\n", 0, at)]
-            yield _Said(line.spot(at - text.rfind(b"\n", 0, at)), line.origin, it["unit"])
+            yield Said(line.spot(at - text.rfind(b"\n", 0, at)), line.origin, unit)

@@ -20,8 +20,6 @@ from .tokens import Token, tokens
 
 def with_uses(folders: Folders, joined: Joined, definitions: Sequence[bytes]) -> list[Line]:
     """The lines of a source, behind which these lines will be assigned, behind those of all that it uses. Raises Refused."""
-    if not joined.uses:
-        return joined.lines
     scopes: dict[str, FileScope] = {}
     joined.behind = definitions
     main = scope_of(folders, joined, (joined.file.identity(),), scopes)
@@ -78,7 +76,7 @@ def _rename(main: FileScope, libraries: Sequence[FileScope]) -> None:
 
 
 def _is_met(scope: FileScope, name: Name, others: Sequence[tuple[FileScope, set[Name]]]) -> bool:
-    """Whether a variable of a scope would be another one's, or another one's would be it."""
+    """Whether a variable of a scope would be taken for another one's, or another one's for it."""
     is_own = name in scope.defined()
     return any(name in it.defined() or (is_own and name in names) for it, names in others)
 

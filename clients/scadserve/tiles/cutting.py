@@ -16,7 +16,8 @@ from enum import Enum
 from typing import Iterator, Sequence, Union
 
 from ..openscad.exact_hull import Hull, Plane, Point
-from ..openscad.grid import Grid
+from ..openscad.fineness import across, prism_axes
+from ..openscad.grid import Grid, shape_text
 from ..openscad.reader import Node
 from ..openscad.tree import DIFFERENCE, INTERSECTION, UNION, Join
 
@@ -37,7 +38,7 @@ FULL, EMPTY = Fill.FULL, Fill.EMPTY
 class Convex:
     """A leaf on the grid by its facets, each with its plane, the numbers of its corners and its box."""
 
-    __slots__ = ("hull", "node", "planes", "rings", "boxes", "box", "_peaks")
+    __slots__ = ("hull", "node", "planes", "rings", "boxes", "box", "_peaks", "_axes", "_twice", "_sides", "_text")
 
     def __init__(self, hull: Hull, node: Node) -> None:
         self.hull, self.node = hull, node
@@ -45,16 +46,46 @@ class Convex:
         self.rings = list(hull.facets.values())
         self.boxes = [box_of([hull.corners[it] for it in ring]) for ring in self.rings]
         self.box = box_of(hull.corners)
-        self._peaks: "list[Point] | None" = None
+        self._peaks: list[Point] | None = None
+        self._axes: list[int] | None = None
+        self._twice: Convex | None = None
+        self._sides: list[Plane] | None = None
+        self._text: str | None = None
+
+    def sides(self) -> list[Plane]:
+        """The planes of its facets, each as the one of two opposite ones that stands for both."""
+        if self._sides is None:
+            self._sides = list(map(either, self.planes))
+        return self._sides
+
+    def text(self) -> str:
+        """It as a shape of a source."""
+        if self._text is None:
+            self._text = shape_text(self.hull)
+        return self._text
+
+    def prism_axes(self) -> list[int]:
+        """The axes along which it is a prism."""
+        if self._axes is None:
+            self._axes = prism_axes(self.hull)
+        return self._axes
+
+    def twice(self) -> Convex:
+        """The same on a grid that is twice as fine."""
+        if self._twice is None:
+            corners = [(2 * x, 2 * y, 2 * z) for x, y, z in self.hull.corners]
+            facets = {(a, b, c, 2 * d): ring for (a, b, c, d), ring in self.hull.facets.items()}
+            self._twice = Convex(Hull(corners, facets), self.node)
+        return self._twice
 
     def peaks(self, most: int, box: Box) -> bool:
-        """Whether more facets than so many meet in a corner that is in a box, or at its border."""
+        """Whether more facets than this many meet in a corner that is in a box, or at its border."""
         if self._peaks is None:
             counts = Counter(it for ring in self.rings for it in ring)
             self._peaks = [self.hull.corners[it] for it, count in counts.items() if count > most]
         return any(all(low <= it <= high for it, low, high in zip(peak, box, box[3:])) for peak in self._peaks)
 
-    def in_order(self) -> "Iterator[int]":
+    def in_order(self) -> Iterator[int]:
         """The numbers of the facets, so that most have an edge in common with one before."""
         across = {edge: at for at, ring in enumerate(self.rings) for edge in zip(ring, [*ring[1:], ring[0]])}
         seen = [False] * len(self.rings)
@@ -68,7 +99,7 @@ class Convex:
                 waiting += [across[v, u] for u, v in zip(ring, [*ring[1:], ring[0]])]
 
     def holds(self, point: Sequence[int], times: int = 1) -> bool:
-        """Whether a point, whose coordinates are given so many times as large, is in it or on it."""
+        """Whether a point, whose coordinates are given this many times as large, is in it or on it."""
         x, y, z = point
         return all(a * x + b * y + c * z <= d * times for a, b, c, d in self.planes)
 
@@ -83,11 +114,11 @@ class Near:
     """
 
     leaf: Convex
-    facets: "Sequence[int]"
+    facets: Sequence[int]
     has_corner: bool = False
 
     def holds(self, point: Point, times: int = 1) -> bool:
-        """Whether a point of the tile, whose coordinates are given so many times as large, is in the leaf or on it."""
+        """Whether a point of the tile, whose coordinates are given this many times as large, is in the leaf or on it."""
         x, y, z = point
         planes = self.leaf.planes
         for at in self.facets:
@@ -102,10 +133,25 @@ Tree = Union[Near, "Join[Near]"]
 
 @dataclass(frozen=True)
 class Tile:
-    """A box, and what of a design counts in it."""
+    """A box, and what of a design counts in it. Its grid has a number of steps to a unit of the design, and may be one that was
+    made twice as fine for its walls."""
 
     box: Box
     tree: Tree
+    steps: int = 1
+    is_halved: bool = False
+
+    def origin(self) -> Point:
+        """Where its own origin is, so that what is near has room: the design's, where all of that has."""
+        if self.steps == 1:
+            return (0, 0, 0)
+        a, b, c, x, y, z = self.box
+        return (a + x) // 2, (b + y) // 2, (c + z) // 2
+
+    def with_half_steps(self) -> Tile:
+        """The same on a grid that is twice as fine."""
+        a, b, c, x, y, z = self.box
+        return Tile((2 * a, 2 * b, 2 * c, 2 * x, 2 * y, 2 * z), _twice(self.tree), 2 * self.steps, True)
 
 
 @dataclass(frozen=True)
@@ -117,7 +163,13 @@ class Limits:
     shapes: int = 240
 
 
-def box_of(points: "Sequence[Point]") -> Box:
+def _twice(tree: Tree) -> Tree:
+    if isinstance(tree, Join):
+        return Join(tree.operation, [_twice(it) for it in tree.parts])
+    return Near(tree.leaf.twice(), tree.facets, tree.has_corner)
+
+
+def box_of(points: Sequence[Point]) -> Box:
     """The box around points."""
     xs, ys, zs = zip(*points)
     return min(xs), min(ys), min(zs), max(xs), max(ys), max(zs)
@@ -131,7 +183,7 @@ def whole_tree(grid: Grid) -> Tree:
     return Near(leaf, range(len(leaf.planes)), True)
 
 
-def near_leaves(tree: Tree) -> "Iterator[Near]":
+def near_leaves(tree: Tree) -> Iterator[Near]:
     """The leaves from left to right."""
     waiting = [tree]
     while waiting:
@@ -150,14 +202,14 @@ def whole_box(tree: Tree) -> Box:
     return (low[0], low[1], low[2], high[0], high[1], high[2])
 
 
-def within(tree: Tree, box: Box) -> "Tree | Fill":
+def within(tree: Tree, box: Box) -> Tree | Fill:
     """What of a tree counts in a box that lies in its own."""
     if isinstance(tree, Join):
         return rejoined(tree.operation, [within(it, box) for it in tree.parts], box, tree)
     return _near(tree, box)
 
 
-def rejoined(operation: str, parts: "Sequence[Tree | Fill]", box: Box, whole: Tree) -> "Tree | Fill":
+def rejoined(operation: str, parts: Sequence[Tree | Fill], box: Box, whole: Tree) -> Tree | Fill:
     """The join of what parts are in a box, which are those of a whole one."""
     if operation == UNION:
         if FULL in parts:
@@ -178,7 +230,7 @@ def rejoined(operation: str, parts: "Sequence[Tree | Fill]", box: Box, whole: Tr
     return first if not taken else Join(DIFFERENCE, [first, taken[0] if len(taken) == 1 else Join(UNION, taken)])
 
 
-def _join(operation: str, parts: "list[Tree]", nothing: Fill) -> "Tree | Fill":
+def _join(operation: str, parts: list[Tree], nothing: Fill) -> Tree | Fill:
     if not parts:
         return nothing
     return parts[0] if len(parts) == 1 else Join(operation, parts)
@@ -200,7 +252,7 @@ def block(box: Box) -> Hull:
     return Hull(corners, facets)
 
 
-def _near(near: Near, box: Box) -> "Near | Fill":
+def _near(near: Near, box: Box) -> Near | Fill:
     """What of a leaf counts in a box."""
     lx, ly, lz, hx, hy, hz = box
     leaf = near.leaf
@@ -234,7 +286,7 @@ def _is_inside(point: Point, box: Box) -> bool:
     return box[0] < x < box[3] and box[1] < y < box[4] and box[2] < z < box[5]
 
 
-def halved(tile: Tile) -> "list[Tile] | None":
+def halved(tile: Tile) -> list[Tile] | None:
     """The two parts of a tile, of which those are left out through which no facet goes and that are empty; None where there is
     no wall between two parts on which no facet stands."""
     box = tile.box
@@ -248,18 +300,18 @@ def halved(tile: Tile) -> "list[Tile] | None":
                 part: Box = (half[0], half[1], half[2], half[3], half[4], half[5])
                 tree = within(tile.tree, part)
                 if not isinstance(tree, Fill):
-                    found.append(Tile(part, tree))
+                    found.append(Tile(part, tree, tile.steps, tile.is_halved))
             return found
     return None
 
 
-def _wall(tile: Tile, axis: int) -> "int | None":
+def _wall(tile: Tile, axis: int) -> int | None:
     """The place nearest to the middle of a tile where it can be cut across an axis."""
     taken = set()
     for it in near_leaves(tile.tree):
         for at in it.facets:
             plane = it.leaf.planes[at]
-            if plane[axis] and not any(plane[other] for other in range(3) if other != axis):
+            if across(plane) == axis:
                 taken.add(plane[3] * plane[axis])
     low, high = tile.box[axis], tile.box[axis + 3]
     middle = (low + high) // 2
@@ -270,8 +322,17 @@ def _wall(tile: Tile, axis: int) -> "int | None":
     return None
 
 
-def count_of(tile: Tile, most: int) -> "tuple[int, int]":
-    """How many facets go through a tile, counted up to about so many, and how many leaves it has."""
+def planes_of(tile: Tile) -> int:
+    """On how many different planes the facets are that go through a tile."""
+    planes: set[Plane] = set()
+    for it in near_leaves(tile.tree):
+        sides = it.leaf.sides()
+        planes.update(sides[at] for at in it.facets)
+    return len(planes)
+
+
+def count_of(tile: Tile, most: int) -> tuple[int, int]:
+    """How many facets go through a tile, counted up to about this many, and how many leaves it has."""
     facets = leaves = 0
     for it in near_leaves(tile.tree):
         facets += len(it.facets)

@@ -7,15 +7,17 @@ on those planes, and its edges on walls meet those of the tiles beside it.
 
 from __future__ import annotations
 
+import contextlib
 import hashlib
 import json
 import os
 from dataclasses import dataclass
 from fractions import Fraction
-from typing import Any, Sequence
+from typing import Any, NamedTuple, Sequence
 
 from ..files import read_file, write_file
 from ..openscad.conversion import Design
+from ..openscad.exact_hull import Point
 from ..solid import fouroff
 from ..solid.fouroff import Plane
 from .cutting import Box, Limits, Tile
@@ -24,7 +26,7 @@ from .gluing import NotOfTile, Part, part_of
 from .side_by_side import done, processors
 
 INDEX = "tiles.json"
-_KIND = "tiles of scadserve 1"
+_KIND = "tiles of scadserve 2"
 
 
 class BadIndex(ValueError):
@@ -33,11 +35,14 @@ class BadIndex(ValueError):
 
 @dataclass(frozen=True)
 class OneTile:
-    """A tile of an index: its name, its box, the planes of its shapes, and the sum of its source."""
+    """A tile of an index: its name; its box, the planes of its shapes, and the sum of its source, which has an origin of its
+    own and this many steps to a unit of the design."""
 
     name: str
+    origin: Point
+    steps: int
     box: Box
-    planes: "list[Plane]"
+    planes: list[Plane]
     sum_of_source: str
 
 
@@ -46,37 +51,61 @@ class Index:
     """All tiles of a design, and how long a unit is in OpenSCAD's lengths."""
 
     unit: Fraction
-    tiles: "list[OneTile]"
+    tiles: list[OneTile]
 
 
-def write_folder(folder: str, name: str, design: Design, limits: Limits, jobs: "int | None" = None) -> int:
-    """Writes the sources of a design's tiles and their index, which comes last; gives how many tiles there are.
+class _Written(NamedTuple):
+    """A tile as it is written: see OneTile."""
 
-    Raises OSError where a file can't be written, and CsgFault where the design can't be cut.
+    origin: Point
+    steps: int
+    box: Box
+    lines: list[bytes]
+    planes: list[Plane]
+
+
+def write_folder(folder: str, name: str, design: Design, limits: Limits, jobs: int | None = None) -> int:
+    """Writes the sources of a design's tiles and their index, which comes last, to an empty folder; gives how many there are.
+
+    Raises OSError where a file can't be written, and CsgFault where the design can't be cut; then none is left.
     """
-    found = pieces(design.grid, limits)
-    of_pieces: "list[list[tuple[Box, list[bytes], list[Plane]]]]" = [[] for _ in found]
+    try:
+        return _written_folder(folder, name, design, limits, jobs)
+    except BaseException:
+        with contextlib.suppress(OSError):
+            for it in os.listdir(folder):
+                os.unlink(os.path.join(folder, it))
+        raise
 
-    def work(piece: Tile) -> "list[tuple[Box, list[bytes], list[Plane]]]":
-        return [(it.tile.box, it.lines, sorted(it.planes)) for it in sources([piece], limits)]
+
+def _written_folder(folder: str, name: str, design: Design, limits: Limits, jobs: int | None) -> int:
+    """Writes a folder, of which some may be left where an exception is raised."""
+    found = pieces(design.grid, limits, design.steps)
+    of_pieces: list[list[_Written]] = [[] for _ in found]
+
+    def work(piece: Tile) -> list[_Written]:
+        return [_Written(it.origin, it.tile.steps, it.box(), it.lines, sorted(it.planes)) for it in sources([piece], limits)]
 
     for number, made in done(work, found, jobs or processors()):
         of_pieces[number] = made
     all_tiles = [it for made in of_pieces for it in made]
     width = max(4, len(str(len(all_tiles))))
     tiles = []
-    for number, (box, lines, planes) in enumerate(all_tiles, 1):
-        head = f"// unit: {design.unit}\n// tile {number} of {len(all_tiles)} of {name}\n".encode("ascii", "replace")
+    for number, (origin, steps, box, lines, planes) in enumerate(all_tiles, 1):
+        head = f"// unit: {design.unit / steps}\n// tile {number} of {len(all_tiles)} of {name}\n".encode("ascii", "replace")
         text = head + b"".join(it + b"\n" for it in lines)
         own = f"{number:0{width}}"
         write_file(os.path.join(folder, f"{own}.scad"), text)
-        tiles.append({"name": own, "box": box, "planes": [n for it in planes for n in it], "source": _sum(text)})
+        tile: dict[str, object] = {"name": own, "origin": origin, "steps": steps, "box": box}
+        tile["planes"] = [n for it in planes for n in it]
+        tile["source"] = _sum(text)
+        tiles.append(tile)
     index = {"kind": _KIND, "unit": str(design.unit), "tiles": tiles}
     write_file(os.path.join(folder, INDEX), _printed({**index, "sum": _sum(_printed(index))}))
     return len(tiles)
 
 
-def _printed(index: "dict[str, Any]") -> bytes:
+def _printed(index: dict[str, Any]) -> bytes:
     return json.dumps(index, separators=(",", ":")).encode("ascii") + b"\n"
 
 
@@ -91,17 +120,21 @@ def read_index(folder: str) -> Index:
         own = index.pop("sum")
         if index["kind"] != _KIND or own != _sum(_printed(index)):
             raise BadIndex("it isn't as csg2scad wrote it")
-        tiles = [OneTile(it["name"], _box(it["box"]), _planes(it["planes"]), it["source"]) for it in index["tiles"]]
-        return Index(Fraction(index["unit"]), tiles)
+        return Index(Fraction(index["unit"]), [_tile(it) for it in index["tiles"]])
     except (KeyError, TypeError, AttributeError, ValueError) as error:
-        raise error if isinstance(error, BadIndex) else BadIndex("it is no index of tiles") from None
+        raise error if isinstance(error, BadIndex) else BadIndex("it is not an index of tiles") from None
 
 
-def _planes(numbers: "Sequence[int]") -> "list[Plane]":
+def _tile(it: dict[str, Any]) -> OneTile:
+    x, y, z = it["origin"]
+    return OneTile(it["name"], (x, y, z), it["steps"], _box(it["box"]), _planes(it["planes"]), it["source"])
+
+
+def _planes(numbers: Sequence[int]) -> list[Plane]:
     return list(zip(numbers[::4], numbers[1::4], numbers[2::4], numbers[3::4]))
 
 
-def _box(numbers: "Sequence[int]") -> Box:
+def _box(numbers: Sequence[int]) -> Box:
     a, b, c, x, y, z = numbers
     return (a, b, c, x, y, z)
 
@@ -110,13 +143,13 @@ def _box(numbers: "Sequence[int]") -> Box:
 class Texts:
     """Where the texts of an index's tiles are: the file of each tile, or those that are in none of the folders."""
 
-    files: "dict[str, str]"
-    missing: "list[str]"
+    files: dict[str, str]
+    missing: list[str]
 
 
-def texts_of(index: Index, folders: "Sequence[str]") -> Texts:
+def texts_of(index: Index, folders: Sequence[str]) -> Texts:
     """The file of each tile's text: the first that is in one of these folders."""
-    files: "dict[str, str]" = {}
+    files: dict[str, str] = {}
     for it in index.tiles:
         for folder in folders:
             file = os.path.join(folder, f"{it.name}.4off")
@@ -129,14 +162,14 @@ class BadTile(ValueError):
     """The text of a tile can't be read, or isn't that tile's: what is said of it."""
 
 
-def parts_of(index: Index, files: "dict[str, str]", jobs: "int | None") -> "list[Part]":
+def parts_of(index: Index, files: dict[str, str], jobs: int | None) -> list[Part]:
     """The part of the boundary in each tile. Raises BadTile."""
 
     def work(tile: OneTile) -> Part:
         file = files[tile.name]
         try:
             boundary = fouroff.read(read_file(file))
-            return part_of(boundary.corners, boundary.faces, tile.box, set(tile.planes))
+            return part_of(boundary.corners, boundary.faces, tile.box, set(tile.planes)).moved(tile.origin, tile.steps)
         except fouroff.Malformed as fault:
             raise BadTile(f"{file}:{fault.line}: error: {fault.reason}") from None
         except NotOfTile as fault:

@@ -12,8 +12,10 @@ solids are none of one design, and are refused. Faces of one plane on both sides
 from __future__ import annotations
 
 from dataclasses import dataclass
+from math import gcd
 from typing import AbstractSet, Iterable, Sequence
 
+from ..openscad.exact_hull import Point, dot
 from ..solid import closing
 from ..solid.closing import ears
 from ..solid.fouroff import Boundary, Corner, Plane, flatten, plane_of
@@ -26,17 +28,31 @@ from .cutting import Box, either
 class Part:
     """The part of a boundary in a tile, as triangles: the corner at which each side begins, its twin, and each plane."""
 
-    corners: "list[Corner]"
-    starts: "list[int]"
-    twins: "list[Side]"
-    planes: "list[Plane]"
+    corners: list[Corner]
+    starts: list[int]
+    twins: list[Side]
+    planes: list[Plane]
+
+    def moved(self, by: Point, steps: int) -> Part:
+        """The same in units, of which each has this many steps, at its place from the design's origin."""
+        if steps == 1 and by == (0, 0, 0):
+            return self
+        x, y, z = by
+        corners = [_reduced(a + x * d, b + y * d, c + z * d, d * steps) for a, b, c, d in self.corners]
+        known = {it: _reduced(it[0] * steps, it[1] * steps, it[2] * steps, it[3] + dot(it[:3], by)) for it in set(self.planes)}
+        return Part(corners, self.starts, self.twins, [known[it] for it in self.planes])
+
+
+def _reduced(a: int, b: int, c: int, d: int) -> tuple[int, int, int, int]:
+    divisor = gcd(a, b, c, d)
+    return a // divisor, b // divisor, c // divisor, d // divisor
 
 
 class NotOfTile(ValueError):
     """A solid isn't that of a tile: why not."""
 
 
-def part_of(corners: "Sequence[Corner]", faces: "Sequence[tuple[int, ...]]", box: Box, planes: "AbstractSet[Plane]") -> Part:
+def part_of(corners: Sequence[Corner], faces: Sequence[tuple[int, ...]], box: Box, planes: AbstractSet[Plane]) -> Part:
     """What of the boundary of a tile's solid is that of the whole, which lies on these planes, of which each is one of two
     opposite ones.
 
@@ -57,7 +73,7 @@ def part_of(corners: "Sequence[Corner]", faces: "Sequence[tuple[int, ...]]", box
     for side, twin in enumerate(surface.twins):
         if twin == NO_SIDE and not walls[starts[side]] & walls[starts[next_side(side)]]:
             raise NotOfTile("it is not closed: a face ends within the tile")
-    numbers: "dict[int, int]" = {}
+    numbers: dict[int, int] = {}
     starts = [numbers.setdefault(it, len(numbers)) for it in starts]
     return Part([corners[it] for it in numbers], starts, surface.twins, surface.planes)
 
@@ -74,7 +90,7 @@ def _walls_of(corner: Corner, box: Box) -> int:
     return found
 
 
-def _common(walls: "Sequence[int]", face: "Sequence[int]") -> int:
+def _common(walls: Sequence[int], face: Sequence[int]) -> int:
     """The wall on which all corners of a face are; 0 where there is none."""
     found = walls[face[0]]
     for it in face[1:]:
@@ -82,7 +98,7 @@ def _common(walls: "Sequence[int]", face: "Sequence[int]") -> int:
     return found
 
 
-def glued(parts: "Iterable[Part]") -> Surface:
+def glued(parts: Iterable[Part]) -> Surface:
     """The closed surface of parts. Raises NotClosed where these don't fit one another."""
     whole = _Gluing()
     for it in parts:
@@ -94,10 +110,10 @@ class _Gluing:
     """A surface that grows by parts."""
 
     def __init__(self) -> None:
-        self._numbers: "dict[Corner, int]" = {}
-        self._starts: "list[int]" = []
-        self._twins: "list[Side]" = []
-        self._planes: "list[Plane]" = []
+        self._numbers: dict[Corner, int] = {}
+        self._starts: list[int] = []
+        self._twins: list[Side] = []
+        self._planes: list[Plane] = []
 
     def add(self, part: Part) -> None:
         """Adds a part, which is paired with no other one yet."""
@@ -112,7 +128,7 @@ class _Gluing:
         corners = list(self._numbers)
         border = [side for side, twin in enumerate(self._twins) if twin == NO_SIDE]
         self._cut(corners, border)
-        rims: "dict[tuple[int, int], list[Side]]" = {}
+        rims: dict[tuple[int, int], list[Side]] = {}
         on_walls = set()
         for side, twin in enumerate(self._twins):
             if twin == NO_SIDE:
@@ -126,17 +142,17 @@ class _Gluing:
         surface = Surface(corners, places, nodes, self._twins, self._planes)
         return merged(surface, [node for node, place in enumerate(places) if place in on_walls])
 
-    def _cut(self, corners: "Sequence[Corner]", border: "Sequence[Side]") -> None:
+    def _cut(self, corners: Sequence[Corner], border: Sequence[Side]) -> None:
         """Cuts triangles at the border anew, so that no corner of another one is inside an edge there."""
         inside = closing.corners_inside([(self._starts[it], self._starts[next_side(it)]) for it in border], corners)
         cut = {side: found for side, found in zip(border, inside) if found}
         for triangle in sorted({it // 3 for it in cut}):
             self._cut_triangle(triangle, cut, corners)
 
-    def _cut_triangle(self, triangle: int, cut: "dict[Side, list[int]]", corners: "Sequence[Corner]") -> None:
+    def _cut_triangle(self, triangle: int, cut: dict[Side, list[int]], corners: Sequence[Corner]) -> None:
         """Cuts a triangle, into some of whose sides corners are put."""
-        ring: "list[int]" = []
-        outer: "list[Side]" = []
+        ring: list[int] = []
+        outer: list[Side] = []
         for side in range(3 * triangle, 3 * triangle + 3):
             more = cut.get(side, [])
             ring += [self._starts[side], *more]

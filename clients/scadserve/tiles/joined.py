@@ -2,24 +2,28 @@
 
 from __future__ import annotations
 
-from dataclasses import dataclass
-
 from ..server.replies import Solid as ToldSolid
 from ..solid.fouroff import Boundary
 from ..solid.surface import Surface
 
 
-@dataclass(frozen=True)
 class JoinedSolid(ToldSolid):
     """A solid that is put together, as it would be told, and its surface, whose triangles are the faces of its text."""
 
     surface: Surface
 
+    @classmethod
+    def of(cls, vertices: int, faces: int, text: bytes, surface: Surface) -> JoinedSolid:
+        """The solid of a text with this many vertices and faces, and of its surface."""
+        it = cls(vertices, faces, text)
+        it.surface = surface
+        return it
+
 
 def boundary_of(surface: Surface) -> Boundary:
     """The boundary whose faces are the triangles of a surface, with its corners in the order in which they have them."""
-    numbers: "dict[int, int]" = {}
-    faces: "list[tuple[int, ...]]" = []
+    numbers: dict[int, int] = {}
+    faces: list[tuple[int, ...]] = []
     for at in range(len(surface.planes)):
         a, b, c = (numbers.setdefault(surface.places[it], len(numbers)) for it in surface.triangle(at))
         faces.append((a, b, c))
@@ -33,4 +37,4 @@ def text_of(surface: Surface) -> JoinedSolid:
     lines += ["%d %d %d %d" % it for it in boundary.corners]
     lines += ["3 %d %d %d" % it for it in boundary.faces]
     text = "".join(f"{it}\n" for it in lines).encode("ascii")
-    return JoinedSolid(len(boundary.corners), len(boundary.faces), text, surface)
+    return JoinedSolid.of(len(boundary.corners), len(boundary.faces), text, surface)

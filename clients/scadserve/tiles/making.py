@@ -7,7 +7,8 @@ from typing import Callable, Sequence
 
 from ..openscad.grid import Grid
 from ..server.batches import batches
-from ..server.replies import Complex, Fault, Malformed, NoMemory, Reply
+from ..server.failures import Malformed
+from ..server.replies import Complex, Fault, NoMemory, Reply
 from ..server.replies import Solid as ToldSolid
 from ..server.scripts import OutOfMemory, run
 from ..solid import fouroff
@@ -31,22 +32,23 @@ class Made:
 
 def made(
     grid: Grid,
-    server: "Sequence[str]",
-    jobs: "int | None" = None,
+    server: Sequence[str],
+    jobs: int | None = None,
     limits: Limits = Limits(),
-    progress: "Callable[[int, float], None]" = lambda tiles, share: None,
-    until: "float | None" = None,
+    progress: Callable[[int, float], None] = lambda tiles, share: None,
+    until: float | None = None,
+    steps: int = 1,
 ) -> Made:
-    """The solid of a design on the grid. `progress` is told how many tiles are done, and which share that is. At `until`, a time
-    of `time.monotonic`, the runs of the server are ended.
+    """The solid of a design on a grid, with the given number of steps to a unit. `progress` is told how many tiles are done,
+    and which share that is. At `until`, a time of `time.monotonic`, the runs of the server are ended.
 
     Raises CsgFault where a tile can't be halved, NotClosed where what is put together isn't closed, and what `run` of `server`
     raises.
     """
-    found = pieces(grid, limits)
+    found = pieces(grid, limits, steps)
     sizes = [facets_of(it, 10**9) for it in found]
     solver = _Solver(server, limits, until)
-    parts: "list[list[Part]]" = [[] for _ in found]
+    parts: list[list[Part]] = [[] for _ in found]
     tiles = finished = 0
     for number, of_piece in done(solver, found, jobs or processors()):
         parts[number] = of_piece
@@ -59,10 +61,10 @@ def made(
 class _Solver:
     """Makes the parts of a boundary that are in a piece of a design."""
 
-    def __init__(self, server: "Sequence[str]", limits: Limits, until: "float | None") -> None:
+    def __init__(self, server: Sequence[str], limits: Limits, until: float | None) -> None:
         self._server, self._limits, self._until = server, limits, until
 
-    def __call__(self, piece: Tile) -> "list[Part]":
+    def __call__(self, piece: Tile) -> list[Part]:
         """The part of each tile of a piece."""
         found = []
         waiting = list(sources([piece], self._limits))
@@ -70,7 +72,8 @@ class _Solver:
             again = []
             for it, reply in zip(waiting, self._replies([it.lines for it in waiting])):
                 if isinstance(reply, ToldSolid):
-                    found.append(part_of(*fouroff.numbers_of(reply.text), it.tile.box, it.planes))
+                    part = part_of(*fouroff.numbers_of(reply.text), it.box(), it.planes)
+                    found.append(part.moved(it.origin, it.tile.steps))
                 elif isinstance(reply, Complex) or (isinstance(reply, Fault) and reply.word in _OF_SIZE):
                     again += halves(it.tile)
                 elif isinstance(reply, NoMemory):
@@ -80,8 +83,8 @@ class _Solver:
             waiting = list(sources(again, self._limits))
         return found
 
-    def _replies(self, of_tiles: "list[list[bytes]]") -> "list[Reply]":
-        found: "dict[int, Reply]" = {}
+    def _replies(self, of_tiles: list[list[bytes]]) -> list[Reply]:
+        found: dict[int, Reply] = {}
         for batch in batches(of_tiles, False):
             [answers] = run([batch.script], self._server, 1, until=self._until)
             found.update(batch.replies(answers))

@@ -16,7 +16,7 @@ class Progress:
         self._is_shown = is_wanted and sys.stderr is not None and sys.stderr.isatty()
 
     def __call__(self, tiles: int, share: float) -> None:
-        """So many tiles are done, which are such a share of all."""
+        """This many tiles are done, which are such a share of all."""
         if self._is_shown:
             left = (monotonic() - self._began) * (1 - share) / share if share else 0.0
             self._write(f"{self._name}: {tiles} of about {round(tiles / share) if share else tiles} tiles, {left:.0f} s left")

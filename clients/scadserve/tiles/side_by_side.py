@@ -28,7 +28,7 @@ def processors() -> int:
     return len(os.sched_getaffinity(0)) if hasattr(os, "sched_getaffinity") else os.cpu_count() or 1
 
 
-def done(work: "Callable[[P], T]", pieces: "Sequence[P]", jobs: int) -> "Iterator[tuple[int, T]]":
+def done(work: Callable[[P], T], pieces: Sequence[P], jobs: int) -> Iterator[tuple[int, T]]:
     """The number of each piece with what is made of it, as it comes. Raises what `work` raises, and ServerFailed where a
     process is ended from outside."""
     team = _Team(work, pieces, min(jobs, len(pieces)))
@@ -41,9 +41,9 @@ def done(work: "Callable[[P], T]", pieces: "Sequence[P]", jobs: int) -> "Iterato
 class _Team(Generic[P, T]):
     """Processes, each with a pipe, by which it is told the numbers of pieces and gives what it makes of them."""
 
-    def __init__(self, work: "Callable[[P], T]", pieces: "Sequence[P]", jobs: int) -> None:
+    def __init__(self, work: Callable[[P], T], pieces: Sequence[P], jobs: int) -> None:
         self._left = iter(range(len(pieces)))
-        self._pipes: "dict[Connection, multiprocessing.process.BaseProcess]" = {}
+        self._pipes: dict[Connection, multiprocessing.process.BaseProcess] = {}
         for _ in range(jobs):
             ours, theirs = _FORKING.Pipe()
             others = [*self._pipes, ours]
@@ -52,7 +52,7 @@ class _Team(Generic[P, T]):
             theirs.close()
             self._pipes[ours] = process
 
-    def results(self) -> "Iterator[tuple[int, T]]":
+    def results(self) -> Iterator[tuple[int, T]]:
         busy = set()
         for pipe in self._pipes:
             if self._give(pipe):
@@ -75,9 +75,9 @@ class _Team(Generic[P, T]):
                 pipe.send(number)
         return number is not None
 
-    def _taken(self, pipe: Connection) -> "tuple[int, T, Exception | None]":
+    def _taken(self, pipe: Connection) -> tuple[int, T, Exception | None]:
         try:
-            found: "tuple[int, T, Exception | None]" = pipe.recv()
+            found: tuple[int, T, Exception | None] = pipe.recv()
             return found
         except (EOFError, ConnectionResetError):
             process = self._pipes[pipe]
@@ -98,7 +98,7 @@ class _Team(Generic[P, T]):
                 process.terminate()
 
 
-def _serve(work: "Callable[[P], T]", pieces: "Sequence[P]", pipe: Connection, others: "Sequence[Connection]") -> None:
+def _serve(work: Callable[[P], T], pieces: Sequence[P], pipe: Connection, others: Sequence[Connection]) -> None:
     """Does what it is told by a pipe until that ends."""
     for it in others:
         it.close()

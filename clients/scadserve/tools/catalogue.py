@@ -5,8 +5,8 @@ from __future__ import annotations
 from importlib import import_module
 from typing import Sequence
 
+from ..calls.words import Words, say_bad
 from ..ending import BadCall
-from .words import Words, say_bad
 
 #: Each is a module of this package that has `main` and `parser`, and a file of the same name in `bin/` that starts it.
 TOOLS = ("scad2off", "scad2stl", "off2stl", "off2svg", "off2html", "off2in", "off2join", "csg2scad", "scadlive", "scadls")
@@ -15,9 +15,9 @@ STARTER = "scadserve"
 #: All starters, by their place from the top.
 STARTERS = (STARTER, *(f"bin/{name}" for name in TOOLS))
 STATUSES = (
-    "The status is 0 where the whole output was written, 2 where the words are others, 3 where the input is no script, 4 where "
-    "it can't be read, 5 where the output can't be written, and 6 where memory ran out. Where no proved program of these "
-    "sources is there, it is 125 where an unproved run gave no answer, and 127 where there is no rt to run them. "
+    "The status is 0 where the whole output was written, 2 where the words are others, 3 where the input is not a script, 4 "
+    "where it can't be read, 5 where the output can't be written, and 6 where memory ran out. Where no proved program of "
+    "these sources is there, it is 125 where an unproved run gave no answer, and 127 where there is no rt to run them. "
     "SCADSERVE_BOOT=no in the environment leaves out the program that comes with the sources, in boot/."
 )
 

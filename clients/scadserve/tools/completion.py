@@ -79,7 +79,7 @@ def zsh(name: str) -> str:
 
 
 def _of_option(parser: argparse.ArgumentParser, action: argparse.Action, name: str) -> Iterable[str]:
-    """How zsh is told of each name of an option: those of one option exclude one another, unless it may come again."""
+    """How zsh is told about each name of an option: those of one option exclude one another, unless it may come again."""
     said = "".join("\\" + it if it in "[]:\\" else it for it in help_of(parser, action))
     values = action.metavar if isinstance(action.metavar, tuple) else [value_of(action)]
     value = "".join(f":{it}:{_wanted(action, name)}" for it in values if it)

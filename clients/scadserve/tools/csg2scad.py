@@ -8,21 +8,21 @@ import re
 from dataclasses import replace
 from typing import Sequence
 
+from ..calls.by_openscad import conversion_told, warnings_told
+from ..calls.words import Words, front_end_wishes, jobs_word, say_bad, wanted_of, write_out
 from ..ending import BAD_CALL, BadCall, PART_FAULT, ended
 from ..files import called, identity, read_file, reason, refusal_to_write, say
 from ..openscad import reader
-from ..openscad.by_openscad import conversion_told, warnings_told
 from ..openscad.conversion import Design, converted, of_any_size, whole
 from ..openscad.front import Front
 from ..openscad.grid import PLANES
 from ..openscad.reader import CsgFault
-from ..source.units import unit_argument
+from ..source.lengths import unit_argument
 from ..tiles.cutting import Limits
 from ..tiles.folder import write_folder
-from .words import Words, front_end_wishes, jobs_word, say_bad, wanted_of, write_out
 
-_DESCRIPTION = """Writes the solid of OpenSCAD's evaluated form, as openscad --render -o part.csg part.scad writes it, as a source of
-scad2off: each convex leaf as the hull of its corners, rounded to a grid. What was changed is told on standard error."""
+_DESCRIPTION = """Writes a source of scad2off for the evaluated form that openscad --render -o part.csg part.scad writes: each
+convex leaf becomes the hull of its corners, rounded to a grid. What was changed is said on standard error."""
 _EPILOG = "The status is 0 where all was written, 1 where the design can't be converted, 2 where words or files are faulty."
 
 
@@ -36,10 +36,12 @@ def parser() -> Words:
     words = Words("csg2scad", _DESCRIPTION, _EPILOG)
     words.add_argument("file", nargs="?", default="-", metavar="FILE.csg", help="else standard input")
     words.add_argument("-o", dest="out", metavar="FILE", default="-", help="the source to write; else standard output")
-    words.add_argument("--unit", type=unit_argument, help="the step of the grid in OpenSCAD's lengths, as 1/20; else it is chosen")
+    words.add_argument(
+        "--unit", type=unit_argument, help="the step of the grid in OpenSCAD's lengths, as 1/20; else it is chosen"
+    )
     of_tiles = "write a source for each tile of the design to the new folder DIR; off2join joins their texts"
     words.add_argument("--tiles", metavar="DIR", help=of_tiles)
-    of_planes = f"take so many planes at most; else {PLANES}, or {Limits().planes} for a tile"
+    of_planes = f"take at most N planes; default: {PLANES}, or {Limits().planes} for a tile"
     words.add_argument("--planes", type=_count, metavar="N", help=of_planes)
     jobs_word(words, "how many pieces of the design are cut into tiles side by side")
     front_end_wishes(words)
@@ -98,7 +100,7 @@ def _tiles_written(asked: argparse.Namespace, name: str, design: Design) -> int:
 
 def _count(text: str) -> int:
     if not re.fullmatch("[0-9]{1,4}", text) or not 4 <= int(text) <= PLANES:
-        raise argparse.ArgumentTypeError(f"{text!r} is no number from 4 to {PLANES}")
+        raise argparse.ArgumentTypeError(f"{text!r} is not a number from 4 to {PLANES}")
     return int(text)
 
 

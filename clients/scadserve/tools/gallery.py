@@ -29,7 +29,7 @@ from ..solid.measures import box, shown, volume
 from ..solid.merging import merged
 from ..solid.meshes import mesh
 from ..solid.surface import surface_of
-from ..source.units import MILLIMETRE
+from ..source.lengths import MILLIMETRE
 from ..top import TOP
 from ..view.drawing import VIEW, Camera, drawing
 from ..view.page import page as turning_page
@@ -62,12 +62,12 @@ WIDTH = 480  # pixels
 PAGE = "docs/GALLERY.md"
 _INTRODUCTION = """# Gallery
 
-{count} parts with their sources. Each was made by `scad2off gallery/NAME.scad -o gallery/NAME.4off`, and its picture by
-`off2svg gallery/NAME.4off -o gallery/NAME.svg`. `off2html gallery/NAME.4off -o gallery/NAME.html` made a page, in which a browser
-turns the part by mouse, touch or keys and tells its corners. Triangles are those of `off2stl`. Boxes and volumes are exact, in
-units and cubic units, and a test works each of them out by hand. The last {rounds} are round: OpenSCAD evaluates what stands in
-`gallery/openscad/`, and `gallery/NAME.scad` is what `csg2scad` makes of that. `tools/gallery.sh` makes all of it again, this page
-too, and `tools/gallery.sh --compare` compares it.
+{count} parts with their sources. `scad2off gallery/NAME.scad -o gallery/NAME.4off` made each part, and
+`off2svg gallery/NAME.4off -o gallery/NAME.svg` made its picture. `off2html gallery/NAME.4off -o gallery/NAME.html` made a page
+that turns the part by mouse, touch or keys and shows its corners. Triangles are those of `off2stl`. Boxes and volumes are
+exact, in units and cubic units, and a test works each of them out by hand. The last {rounds} are round: OpenSCAD evaluates the
+files in `gallery/openscad/`, and `gallery/NAME.scad` is what `csg2scad` makes of the result. `tools/gallery.sh` makes all files
+again, this page too, and `tools/gallery.sh --compare` compares them.
 
 | Part | Faces | Triangles | Box | Volume |
 |---|---|---|---|---|

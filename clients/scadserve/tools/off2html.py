@@ -10,16 +10,16 @@ import time
 from argparse import Namespace
 from typing import NamedTuple, NoReturn, Sequence
 
+from ..calls import off2tool
+from ..calls.off2tool import BadSolid
+from ..calls.words import Words, write_out
 from ..ending import BadCall
 from ..files import called, say
 from ..solid import closing
-from ..source.units import unit_argument
+from ..source.lengths import unit_argument
 from ..view.drawing import VIEW
 from ..view.page import BEGINS, Shown, page
-from . import off2tool
 from .off2svg import degrees
-from .off2tool import BadSolid
-from .words import Words, write_out
 
 TOOL = "off2html"
 _DESCRIPTION = "Shows the solid of a 4OFF text in one page, to turn, move and zoom."
@@ -80,7 +80,8 @@ def _read(asked: Namespace) -> Shown:
 
 
 def _watch(asked: Namespace, stamp: Stamp, solid: Shown) -> NoReturn:
-    """Writes the page again each time that the file is another one. At a fault the page keeps its solid, and tells the fault."""
+    """Writes the page again each time that the file is another one. At a fault the page keeps its solid, and tells the fault.
+    """
     now = stamp
     while True:
         time.sleep(_PAUSE)

@@ -10,11 +10,11 @@ from argparse import ArgumentTypeError, Namespace
 from fractions import Fraction
 from typing import NamedTuple, Sequence
 
+from ..calls import off2tool
+from ..calls.words import Words, write_out
 from ..files import called
 from ..solid import closing
 from ..solid.crossings import Crossings, NoBoundary
-from . import off2tool
-from .words import Words, write_out
 
 TOOL = "off2in"
 _DESCRIPTION = "Tells whether points are in the solid of a 4OFF text, out of it or on its faces, exactly."
@@ -37,7 +37,13 @@ def parser() -> Words:
     """The words that there are."""
     words = Words(TOOL, _DESCRIPTION)
     words.add_argument("file", metavar="FILE", help="a 4OFF text; `-` is standard input")
-    words.add_argument("points", nargs="+", type=_point, metavar="X,Y,Z", help="a point in units: whole or decimal numbers, or fractions as 1/3")
+    words.add_argument(
+        "points",
+        nargs="+",
+        type=_point,
+        metavar="X,Y,Z",
+        help="a point in units: whole or decimal numbers, or fractions as 1/3",
+    )
     return words
 
 
@@ -66,5 +72,5 @@ def _point(text: str) -> Point:
     given = text.strip(" ")
     numbers = given.split(",")
     if len(numbers) != 3 or not all(_NUMBER.fullmatch(it) for it in numbers):
-        raise ArgumentTypeError(f"{given!r} is no point like 1,2.5,-1/3")
+        raise ArgumentTypeError(f"{given!r} is not a point like 1,2.5,-1/3")
     return Point(given, tuple(Fraction(it) for it in numbers))

@@ -7,15 +7,15 @@ from __future__ import annotations
 
 from typing import Sequence
 
+from ..calls import off2tool
+from ..calls.off2tool import BadSolid
+from ..calls.words import Words, jobs_word, write_out
 from ..ending import BadCall
 from ..files import reason, refusal_to_write, say
 from ..solid.surface import NotClosed
 from ..tiles.folder import INDEX, BadIndex, BadTile, Index, parts_of, read_index, texts_of
 from ..tiles.gluing import glued
 from ..tiles.joined import text_of
-from . import off2tool
-from .off2tool import BadSolid
-from .words import Words, jobs_word, write_out
 
 TOOL = "off2join"
 _DESCRIPTION = """Puts the texts of a design's tiles together: NAME.4off of each NAME.scad in a folder that csg2scad --tiles has

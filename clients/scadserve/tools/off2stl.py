@@ -8,13 +8,14 @@ from __future__ import annotations
 from argparse import Namespace
 from typing import Sequence
 
+from ..calls import off2tool
+from ..calls.converting import counted, test_place
+from ..calls.exporting import Lengths, export
+from ..calls.mesh_words import ending_of, format_of, mesh_words
+from ..calls.words import Words, outs_of, test_outs, write_out
 from ..files import say
 from ..solid.formats import BEGINS, WRITERS
-from ..source.units import MILLIMETRE
-from . import off2tool
-from .converting import counted, test_place
-from .exporting import Lengths, ending_of, export, format_of, mesh_words
-from .words import Words, outs_of, test_outs, write_out
+from ..source.lengths import MILLIMETRE
 
 TOOL = "off2stl"
 _DESCRIPTION = "Writes the solids of 4OFF texts as closed surfaces of triangles, and tells of each in a line."

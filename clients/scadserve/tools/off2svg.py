@@ -7,10 +7,10 @@ import re
 from argparse import ArgumentTypeError
 from typing import Sequence
 
+from ..calls import off2tool
+from ..calls.words import Words, write_out
 from ..solid import closing
 from ..view.drawing import VIEW, Camera, drawing
-from . import off2tool
-from .words import Words, write_out
 
 _VIEW_HELP = "the degrees of the viewer to the right of the front, and above it; else 30 30"
 _DESCRIPTION = "Draws the solid of a 4OFF text of the server in SVG."
@@ -47,12 +47,12 @@ def _draw(words: Sequence[str]) -> None:
 def degrees(text: str) -> float:
     """An angle in degrees."""
     if re.fullmatch(r"[+-]?[0-9]{1,4}(\.[0-9]{1,6})?", text) is None:
-        raise ArgumentTypeError(f"{text!r} is no angle from -9999 to 9999 degrees")
+        raise ArgumentTypeError(f"{text!r} is not an angle from -9999 to 9999 degrees")
     return float(text)
 
 
 def _pixels(text: str) -> int:
     """A width in pixels."""
     if re.fullmatch(r"[0-9]{1,5}", text) is None or int(text) < 16:
-        raise ArgumentTypeError(f"{text!r} is no width from 16 to 99999 pixels")
+        raise ArgumentTypeError(f"{text!r} is not a width from 16 to 99999 pixels")
     return int(text)

@@ -5,8 +5,8 @@ from __future__ import annotations
 from argparse import Namespace
 from typing import Sequence
 
+from ..calls.words import Words, front_end_words, source_words, test_front_end, test_outs
 from ..ending import BadCall
-from .words import Words, front_end_words, source_words, test_front_end, test_outs
 
 DESCRIPTION = "Prints the 4OFF text of the solid that an OpenSCAD source describes, or its first fault."
 STATUSES = (

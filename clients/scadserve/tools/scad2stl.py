@@ -9,20 +9,11 @@ from __future__ import annotations
 from argparse import Namespace
 from typing import Sequence
 
+from ..calls.asking import begin_server, told
+from ..calls.mesh_words import format_of, mesh_words
+from ..calls.words import Words, front_end_words, source_words, test_front_end, test_outs
 from ..ending import BadCall, ended
-from ..files import called, say
-from ..server.scripts import Solid, server_of_environment
-from ..solid import fouroff
-from ..solid.formats import BEGINS, WRITERS
-from ..source.reading import read_source
-from ..source.sources import Source
-from ..source.units import MILLIMETRE, with_unit
-from ..tiles.joined import JoinedSolid, boundary_of
-from . import off2tool
-from .converting import Call, convert, front_end, told
-from .exporting import Lengths, ending_of, export, export_closed, format_of, mesh_words
 from .scad2off_words import STATUSES
-from .words import Words, front_end_words, outs_of, source_words, test_front_end, test_outs, write_out
 
 TOOL = "scad2stl"
 _DESCRIPTION = "Writes the solids that OpenSCAD sources describe as closed surfaces of triangles, or tells their first faults."
@@ -41,39 +32,11 @@ def main(words: Sequence[str]) -> int:
 
 def _do(words: Sequence[str]) -> int:
     asked = _read_words(words)
-    reader = front_end(asked, asked.unit)
-    call = Call(
-        TOOL,
-        asked.files,
-        outs_of(asked.files, asked.out, asked.folder, ending_of(asked.format)),
-        folder=asked.folder,
-        half=asked.half,
-        definitions=asked.definitions,
-        folders=asked.folders,
-        has_notes=not asked.no_notes and not asked.by_openscad,
-        server=server_of_environment(),
-        begins=BEGINS,
-        read=reader or (lambda *it: with_unit(read_source(*it), asked.unit)),
-        coarser=reader.coarser if reader else None,
-        larger=reader.larger if reader else None,
-        jobs=asked.jobs,
-        last=reader.last if reader else None,
-    )
-    return convert(call, lambda source, out, solid: off2tool.told(TOOL, lambda: _write(asked, source, out, solid)))
+    begin_server(asked)
+    # (loaded while the server starts)
+    from .scad2stl_meshes import written
 
-
-def _write(asked: Namespace, source: Source, out: str, solid: Solid) -> None:
-    """Writes one solid. Raises BadCall and BadSolid."""
-    lengths = Lengths(source.unit or MILLIMETRE, source.step, asked.exact_numbers)
-    file = "-" if source.name == called("-") else source.name
-    with off2tool.nothing_old(out, BEGINS):
-        if isinstance(solid, JoinedSolid):
-            boundary = boundary_of(solid.surface)
-            mesh, line = export_closed(file, boundary, boundary.faces, solid.surface, lengths, asked.format)
-        else:
-            mesh, line = export(file, fouroff.read(solid.text), lengths, asked.format)
-    write_out(out, WRITERS[asked.format](mesh))
-    say(line)
+    return written(TOOL, asked)
 
 
 def parser() -> Words:

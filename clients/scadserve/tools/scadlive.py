@@ -11,19 +11,22 @@ from argparse import ArgumentTypeError, Namespace
 from typing import Sequence
 from urllib.parse import quote, urlsplit
 
+from ..calls.asking import told
+from ..calls.words import Words, write_out
 from ..ending import BadCall, ended
 from ..files import reason, say
 from ..live.folder import ENDING, Folder, NoSuchFile
 from ..live.serving import Server, Settings, Site
 from ..live.solving import Solver
 from ..live.watching import Watch
-from ..server.scripts import server_of_environment
+from ..server.processes import server_of_environment
 from ..source.joining import folders_of_environment
-from .converting import told
-from .words import Words, write_out
 
 TOOL = "scadlive"
-_DESCRIPTION = "Serves a page in which OpenSCAD sources are edited and their solids turn, for many browsers and programs at once."
+_DESCRIPTION = (
+    "Serves a page in which OpenSCAD sources are edited and their solids turn, for many browsers and programs at "
+    "once."
+)
 _STATUSES = (
     "It goes on until Ctrl-C. The status is 2 where the words are wrong, the folder can't be read or nothing can listen there, "
     "and 130 after Ctrl-C. SCADSERVE in the environment names another server than ./scadserve, and SCADLIVE_TOKEN the token. "
@@ -41,16 +44,37 @@ def main(words: Sequence[str]) -> int:
 def parser() -> Words:
     """The words that there are."""
     words = Words(TOOL, _DESCRIPTION, _STATUSES)
-    words.add_argument("file", nargs="?", default=".", metavar="FILE", help="a source to begin with, or the folder of the sources; else this folder")
-    words.add_argument("--port", type=_port, default=_PORT, metavar="N", help=f"the port, where 0 takes a free one; else {_PORT}")
+    words.add_argument(
+        "file",
+        nargs="?",
+        default=".",
+        metavar="FILE",
+        help="a source to begin with, or the folder of the sources; else this folder",
+    )
+    words.add_argument(
+        "--port", type=_port, default=_PORT, metavar="N", help=f"the port, where 0 takes a free one; else {_PORT}"
+    )
     words.add_argument("--open", action="store_true", help="open the page in a browser")
-    words.add_argument("--jobs", type=_jobs, default=2, metavar="N", help="how many runs of the server go side by side, 1 to 64; else 2")
+    words.add_argument(
+        "--jobs", type=_jobs, default=2, metavar="N", help="how many runs of the server go side by side, 1 to 64; else 2"
+    )
     words.add_argument("--seconds", type=_seconds, default=10.0, metavar="S", help="a run that takes longer is ended; else 10")
     words.add_argument("--half", action="store_true", help="lengths may lie on half units")
-    words.add_argument("-I", dest="folders", metavar="DIR", action="append", default=[], help="look in DIR too for what a source includes or uses")
-    words.add_argument("--bind", metavar="ADDRESS", default=_LOOPBACK, help="listen on another address than 127.0.0.1, which takes a token")
+    words.add_argument(
+        "-I",
+        dest="folders",
+        metavar="DIR",
+        action="append",
+        default=[],
+        help="look in DIR too for what a source includes or uses",
+    )
+    words.add_argument(
+        "--bind", metavar="ADDRESS", default=_LOOPBACK, help="listen on another address than 127.0.0.1, which takes a token"
+    )
     words.add_argument("--token", metavar="TOKEN", help="answer only who has this token")
-    words.add_argument("--base", metavar="URL", default="", help="where a proxy shows the page: https://example.org/live, or its path /live")
+    words.add_argument(
+        "--base", metavar="URL", default="", help="where a proxy shows the page: https://example.org/live, or its path /live"
+    )
     return words
 
 
@@ -139,7 +163,7 @@ def _address(text: str) -> ipaddress.IPv4Address | ipaddress.IPv6Address:
     try:
         return ipaddress.ip_address(text)
     except ValueError:
-        raise BadCall(f"--bind {text} is no address in numbers, as 127.0.0.1 or ::1") from None
+        raise BadCall(f"--bind {text} is not an address in numbers, as 127.0.0.1 or ::1") from None
 
 
 def _host(address: str) -> str:
@@ -148,17 +172,17 @@ def _host(address: str) -> str:
 
 def _port(text: str) -> int:
     if not re.fullmatch(r"[0-9]{1,5}", text) or int(text) > 65535:
-        raise ArgumentTypeError(f"{text!r} is no port from 0 to 65535")
+        raise ArgumentTypeError(f"{text!r} is not a port from 0 to 65535")
     return int(text)
 
 
 def _jobs(text: str) -> int:
     if not re.fullmatch(r"[0-9]{1,2}", text) or not 1 <= int(text) <= 64:
-        raise ArgumentTypeError(f"{text!r} is no number from 1 to 64")
+        raise ArgumentTypeError(f"{text!r} is not a number from 1 to 64")
     return int(text)
 
 
 def _seconds(text: str) -> float:
     if not re.fullmatch(r"[0-9]{1,4}(\.[0-9]{1,3})?", text) or float(text) <= 0:
-        raise ArgumentTypeError(f"{text!r} is no number of seconds from 0.001 to 9999")
+        raise ArgumentTypeError(f"{text!r} is not a number of seconds from 0.001 to 9999")
     return float(text)

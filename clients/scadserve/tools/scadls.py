@@ -5,17 +5,21 @@ from __future__ import annotations
 import os
 from typing import Sequence
 
+from ..calls.asking import told
+from ..calls.words import Words, reading_words, seconds_argument
 from ..editor.checking import no_notes, notes
 from ..editor.serving import Serving, Settings
 from ..ending import ended
-from ..server.scripts import server_of_environment
-from .converting import told
-from .words import Words, reading_words, seconds_argument
+from ..server.processes import server_of_environment
 
 TOOL = "scadls"
-DESCRIPTION = "Tells an editor of OpenSCAD sources while one types, by the Language Server Protocol on standard input and output."
+DESCRIPTION = (
+    "Tells an editor of OpenSCAD sources while one types, by the Language Server Protocol on standard input and "
+    "output."
+)
 STATUSES = (
-    "The status is 0 where the editor has ended the conversation as the protocol says it, 1 where it has broken off, and 2 where "
+    "The status is 0 where the editor has ended the conversation as the protocol says it, 1 where it has broken off, and 2 "
+    "where "
     "the words are wrong. SCADSERVE in the environment names another server than ./scadserve."
 )
 
@@ -26,9 +30,11 @@ def parser() -> Words:
     words.add_argument("--half", action="store_true", help="lengths may lie on half units")
     reading_words(words)
     words.add_argument(
-        "--seconds", type=seconds_argument, default=10.0, metavar="S", help="end an export after so many seconds; else 10"
+        "--seconds", type=seconds_argument, default=10.0, metavar="S", help="end an export after S seconds; default: 10"
     )
-    words.add_argument("--stdio", action="store_true", help="no effect: some editors say so that they use standard input and output")
+    words.add_argument(
+        "--stdio", action="store_true", help="no effect: some editors say so that they use standard input and output"
+    )
     return words
 
 
@@ -39,7 +45,7 @@ def main(words: Sequence[str]) -> int:
 
 def _do(words: Sequence[str]) -> int:
     asked = parser().parse_args(words)
-    # Only the conversation has standard input and output: what else is printed is no message.
+    # Only the conversation has standard input and output: what else is printed is not a message.
     source, sink = open(os.dup(0), "rb"), open(os.dup(1), "wb")
     os.dup2(2, 1)
     folders = [os.path.abspath(it) for it in asked.folders]

@@ -66,7 +66,7 @@ def _cross(p: Direction, q: Direction) -> Direction:
 def drawing(boundary: Boundary, rings: Sequence[Ring], camera: Camera, width: int, title: str) -> str:
     """The drawing of a solid, whose faces go round these closed rings, as the text of an SVG file.
 
-    It is so many pixels wide, and at most twice as tall.
+    It is this many pixels wide, and at most twice as tall.
     """
     order = painted(visible(patches(boundary, rings), camera.view), camera.view)
     places = [camera.project(corner) for corner in boundary.corners]

@@ -1,18 +1,18 @@
 // The viewer of off2html and of scadlive: a solid to turn, move and zoom.
 //
-// It is seen from far away, in parallel, and drawn by a depth buffer of the page's own onto a canvas. So it looks the same in each
-// browser, with a graphics card or without, and what is in front is known for each pixel. While it moves, the picture is as
-// coarse as lets it move smoothly; when it rests, it is drawn once more, finely.
+// It is seen from far away, in parallel, and drawn by a depth buffer of the page's own onto a canvas. So it looks the same in
+// each browser, with a graphics card or without, and what is in front is known for each pixel. While it moves, the picture is
+// as coarse as is needed to move smoothly; when it rests, it is drawn once more, finely.
 //
 // Lengths on the screen are in CSS pixels, those of a raster in its own pixels, and all others in units of the solid.
 
 const MOST_MOVING_PIXELS = 1.5e6;
 const MOST_RESTING_PIXELS = 6e6;
-// A frame of a moving picture is to take so many milliseconds: 50 a second, of which the browser needs some.
+// A frame of a moving picture is to take this many milliseconds: 50 a second, of which the browser needs some.
 const SLOW_FRAME = 20;
 const FAST_FRAME = 10;
 const COARSEST = 0.35;
-// The picture rests when nothing has changed for so many milliseconds.
+// The picture rests when nothing has changed for this many milliseconds.
 const REST = 160;
 // How near to a corner the pointer takes it.
 const REACH = 14;
@@ -24,7 +24,7 @@ const ZOOM = 1.25;
 const DRAG = 0.4;
 const ROLL = 0.0015;
 const PINCH = 0.01;
-// So many milliseconds are between two looks at the file, and a look is given up after so many.
+// This many milliseconds are between two looks at the file, and a look is given up after this many.
 const WATCH_PAUSE = 1000;
 const LONGEST_ANSWER = 10000;
 // No corner, and no crossing.
@@ -183,14 +183,14 @@ class Camera {
     return (this.zoom * 0.46 * Math.min(width, height)) / this.solid.radius;
   }
 
-  /** Moves the solid by so many pixels to the right and down. */
+  /** Moves the solid by this many pixels to the right and down. */
   move(across, down, size) {
     const { right, up } = this.axes();
     const scale = this.scale(size);
     this.centre = this.centre.map((place, axis) => place - (right[axis] * across - up[axis] * down) / scale);
   }
 
-  /** Zooms so that the place so many pixels to the right of the middle and below it stays where it is. */
+  /** Zooms so that the place this many pixels to the right of the middle and below it stays where it is. */
   magnify(factor, across, down, size) {
     const zoom = Math.max(0.1, Math.min(1e6, this.zoom * factor));
     const rest = 1 - zoom / this.zoom;
@@ -335,7 +335,7 @@ class Raster {
     }
   }
 
-  /** Draws a line between two places, so many pixels thick, where nothing is nearer by more than a little. */
+  /** Draws a line between two places, this many pixels thick, where nothing is nearer by more than a little. */
   line(places, one, other, thick, colour) {
     const isFlat = Math.abs(places[other] - places[one]) >= Math.abs(places[other + 1] - places[one + 1]);
     const along = isFlat ? 0 : 1;
@@ -356,7 +356,7 @@ class Raster {
     }
   }
 
-  /** Paints a bit of a line: so many pixels from one on, downwards where the line is flat, and else to the right. */
+  /** Paints a bit of a line: this many pixels from one on, downwards where the line is flat, and else to the right. */
   #dot(along, aside, isFlat, depth, thick, colour) {
     const { pixels, depths, width } = this;
     const begin = aside < 0 ? 0 : aside;
@@ -529,8 +529,8 @@ class Painter {
   }
 
   /**
-   * The corner that is seen nearest to a place on the canvas, within reach; else NOTHING. Of corners that are equally near, up to a
-   * pixel, it is the one in front, and of those that are equally far in front the one with the least number.
+   * The corner that is seen nearest to a place on the canvas, within reach; else NOTHING. Of corners that are equally near, up
+   * to a pixel, it is the one in front, and of those that are equally far in front the one with the least number.
    */
   cornerAt(x, y) {
     const seen = [];

@@ -26,7 +26,7 @@ BEGINS = b'<!DOCTYPE html>\n<html lang="en" data-mark="'
 
 
 class Shown(NamedTuple):
-    """A solid for a page, whose faces go round closed rings, and what is told of it."""
+    """A solid for a page, whose faces go round closed rings, and what is said about it."""
 
     title: str
     boundary: Boundary
@@ -72,8 +72,8 @@ def _facts(solid: Shown) -> dict[str, str]:
 def planes(boundary: Boundary, rings: Sequence[closing.Ring]) -> dict[str, object]:
     """What the page draws: the corners as texts "X Y Z W", and each plane with the loops of numbers of corners round its faces.
 
-    Corners where nothing but faces on one plane meet, and those inside straight edges, are left out: they are none of the solid.
-    """
+    Corners where nothing but faces on one plane meet, and those inside straight edges, are left out: they are none of the
+    solid. """
     numbers: dict[Corner, int] = {}
     drawn = []
     for patch in patches(boundary, rings):

@@ -14,15 +14,15 @@ from typing import Iterator, NamedTuple, Sequence
 from ..solid.closing import Ring, ways
 from ..solid.fouroff import Boundary, Corner, Plane, flatten, turn
 
-#: A corner, and whether the way from it to the next is no edge of the solid, but has a neighbour on the same plane.
+#: A corner, and whether the way from it to the next is not an edge of the solid, but has a neighbour on the same plane.
 Step = tuple[Corner, bool]
 #: The way round a convex polygon.
 Piece = list[Step]
 # The more of them are tried as the next plane, the fewer faces are cut.
 _TRIED = 12
-# So many patches, and four times as many pieces, tell well enough how good a plane is.
+# This many patches, and four times as many pieces, tell well enough how good a plane is.
 _LOOKED_AT = 256
-# Above so many patches, planes that are seen as lines are tried too, through these parts of them.
+# Above this many patches, planes that are seen as lines are tried too, through these parts of them.
 _MANY = 64
 _PARTS = (0.4, 0.5, 0.6)
 
@@ -93,7 +93,8 @@ def painted(patches: list[Patch], view: tuple[int, int, int]) -> Iterator[Patch]
 
 
 def _halves(patches: list[Patch], view: tuple[int, int, int]) -> Halves:
-    """What of the patches is behind a plane, on it and ahead of it, by a plane that cuts few of them and has as many on each side.
+    """What of the patches is behind a plane, on it and ahead of it, by a plane that cuts few of them and has as many on each
+    side.
 
     That is one of theirs. Of many it may also be one that the viewer sees as a line: what is on one side of it hides nothing of
     what is on the other, so bodies of many planes are divided too where each of their planes has all others on one side.

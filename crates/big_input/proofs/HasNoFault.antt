@@ -5,7 +5,7 @@ use Rattle.std.specs.Str.{bytes_eq}
 use Rattle.std.proofs.lemmas.Bool.{ltb-true}
 use Rattle.std.proofs.lemmas.Bool.Decides.{eqb_tells}
 use Rattle.std.proofs.lemmas.List.Elements.{All-nil, All-cons, All-push, All-append, All-weaker, All-same, All-head, All-tail}
-use Rattle.text_place.specs.Decimals.{digits_within, numeral, IsNumeralOf}
+use Rattle.plain_text.specs.Decimals.{digits_within, numeral, IsNumeralOf}
 use Rattle.script_reader.specs.declared.script.Command.{Command}
 use Rattle.script_reader.specs.declared.script.Command.TheVariants.{Put, Export}
 use Rattle.script_reader.specs.declared.script.Script.{Script}
@@ -13,7 +13,7 @@ use Rattle.script_reader.specs.Lines.{IsFirstLine, StartsWithLines}
 use Rattle.script_reader.specs.Spelling.{IsNameByte, IsName}
 use Rattle.script_reader.specs.Scripts.{ClientLine, IsClientLine, IsSoundLine, AreSound, EndsScript, IsScript, clients_of, commands_of}
 use Rattle.big_input.specs.DemoScript.{client_name, client_lines, demo_script}
-use Rattle.text_place.specs.Separators.{newline}
+use Rattle.plain_text.specs.Separators.{newline}
 
 -- ---- numerals
 digits_lack : (a divisions n : ℕ) → a < 48 → All (λ b. b ≢ a) (digits_within divisions n)

@@ -1,6 +1,6 @@
 -- The script of a demonstration: eight clients, each with one module and a loop over it.
 use Rattle.std.specs.Prelude.{ℕ, ◌+◌, ◌%◌, List, [], ◌∷◌, ◌++◌, flat_map, codes}
-use Rattle.text_place.specs.Decimals.{numeral}
+use Rattle.plain_text.specs.Decimals.{numeral}
 
 -- `c` and the client's number, from 1 to 8
 abbrev pub client_name : ℕ → List ℕ

@@ -6,8 +6,8 @@ ghost use Rattle.script_reader.specs.declared.script.Script.{Script};
 ghost use Rattle.script_reader.specs.Scripts.{IsScript};
 ghost use Rattle.big_input.specs.DemoScript.{client_name, module_line, loop_line, client_lines, demo_script};
 
+use plain_text::{NoMemory, push_decimal};
 use std::alloc::Global;
-use text_place::{NoMemory, push_decimal};
 
 // The clients' numbers.
 const CLIENTS: [u32; 8] = [1, 2, 3, 4, 5, 6, 7, 8];

@@ -5,21 +5,21 @@ use Rattle.std.proofs.lemmas.Cmp.{by_ranked, int_ranked}
 use Rattle.std.proofs.lemmas.List.Elements.{All-cons, All-nil}
 use Rattle.plane_predicate.specs.Space.{Coefficients, opposite_of, IsPlane}
 use Rattle.plane_predicate.specs.declared.sides.Side.TheVariants as lying
-use Rattle.plane_predicate.proofs.IntegerRing.{sums}
-use Rattle.plane_predicate.proofs.Vectors.{value-opposite}
+use Rattle.plane_predicate.proofs.lemmas.IntegerRing.{sums}
+use Rattle.plane_predicate.proofs.lemmas.Vectors.{value-opposite}
 use Rattle.plane_polygon.specs.declared.classes.Class.{Class}
 use Rattle.plane_polygon.specs.declared.classes.Class.TheVariants.{Behind}
 use Rattle.plane_polygon.specs.Polygons.{Outline, missing_plane, IsPolygon}
 use Rattle.plane_polygon.specs.Parallels.{HasAllOn, HasSameDirection}
 use Rattle.plane_polygon.specs.Parts.{class_of}
 use Rattle.plane_polygon.specs.Boxes.{high_x, low_x, high_y, low_y, high_z, low_z, trimmed_outline, outline_trimmed_to, box_outline}
-use Rattle.plane_polygon.proofs.BoxStarts.{four, four_polygon, over_x_above, over_x_below, over_y_above, over_y_below, over_z_above, over_z_below}
-use Rattle.plane_polygon.proofs.ParallelPlanes.{below_is_behind, above_is_ahead, same_direction}
+use Rattle.plane_polygon.proofs.lemmas.BoxStarts.{four, four_polygon, over_x_above, over_x_below, over_y_above, over_y_below, over_z_above, over_z_below}
+use Rattle.plane_polygon.proofs.lemmas.ParallelPlanes.{below_is_behind, above_is_ahead, same_direction}
 use Rattle.plane_table.specs.declared.faces.Face.{Face}
 use Rattle.plane_table.specs.Tables.{oriented_by_number, HasNoTwoAlike, NamesPlaneIn}
 use Rattle.plane_table.specs.Faces.{outline_of, IsFaceOver}
 use Rattle.plane_table.specs.Orders.{normal_form, plane_order}
-use Rattle.plane_table.proofs.Orders.{ascending_apart}
+use Rattle.plane_table.proofs.lemmas.Orders.{ascending_apart}
 use Rattle.bsp_tree.specs.Shapes.{SolidParts}
 use Rattle.bsp_tree.specs.Trees.{BspTree, inside}
 use Rattle.bsp_boolean.specs.declared.leaf_building.BuildStop.{BuildStop}

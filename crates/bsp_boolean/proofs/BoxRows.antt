@@ -6,7 +6,7 @@ use Rattle.plane_polygon.specs.declared.classes.Class.TheVariants.{Behind}
 use Rattle.plane_polygon.specs.Parallels.{HasAllOn}
 use Rattle.plane_polygon.specs.Polygons.{Outline, IsPolygon}
 use Rattle.plane_polygon.specs.Parts.{class_of, part_behind}
-use Rattle.plane_polygon.proofs.BoxStarts.{four}
+use Rattle.plane_polygon.proofs.lemmas.BoxStarts.{four}
 use Rattle.bsp_tree.specs.Trees.{BspTree, inside, outside, node, node_or_leaf}
 use Rattle.bsp_tree.specs.Partitions.{divide, parts_by_class}
 use Rattle.bsp_boolean.specs.Chains.{part_behind_all}

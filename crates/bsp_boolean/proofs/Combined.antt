@@ -1,16 +1,16 @@
 -- Two solids as one: the walks, the cells and the planes of what they give.
 use Rattle.std.proofs.Common.{◌≡◌, ◌⊎◌, inl, inr, Bool, true, false, ◌&&◌, ◌||◌, if◌then◌else◌, List, ◌∷◌, refl, sym, ap, ◌∙◌, pos, ◌<ℤ◌}
 use Rattle.plane_predicate.specs.Space.{Coefficients, Coordinates, value, opposite_of}
-use Rattle.plane_predicate.proofs.Signs.{signs}
+use Rattle.plane_predicate.proofs.lemmas.Signs.{signs}
 use Rattle.plane_polygon.specs.Polygons.{Outline}
 use Rattle.bsp_tree.specs.Trees.{BspTree, inside, outside, node, walk, node_or_leaf}
 use Rattle.bsp_tree.specs.Cells.{IsInCell, IsOfCell, IsOffPlanesOf, IsNodePlaneOf}
-use Rattle.bsp_tree.proofs.Opposites.{opposite_below}
-use Rattle.bsp_tree.proofs.Walks.{make_walk, walk_behind, walk_ahead}
+use Rattle.bsp_tree.proofs.lemmas.Opposites.{opposite_below}
+use Rattle.bsp_tree.proofs.lemmas.Walks.{make_walk, walk_behind, walk_ahead}
 use Rattle.bsp_tree.specs.Partitions.{divide}
-use Rattle.bsp_tree.proofs.DividedHalves.{divide_halves}
-use Rattle.bsp_tree.proofs.DividedPlanes.{divide_planes}
-use Rattle.bsp_tree.proofs.DividedWalks.{divide_keeps}
+use Rattle.bsp_tree.proofs.lemmas.DividedHalves.{divide_halves}
+use Rattle.bsp_tree.proofs.lemmas.DividedPlanes.{divide_planes}
+use Rattle.bsp_tree.proofs.lemmas.DividedWalks.{divide_keeps}
 use Rattle.bsp_boolean.specs.Combined.{combination}
 
 -- one of two truths where the inside decides, and else both

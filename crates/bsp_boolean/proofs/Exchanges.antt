@@ -15,12 +15,12 @@ use Rattle.link_forest.specs.declared.link.NodeId.{NodeId}
 use Rattle.link_forest.specs.Forests.{AreLinked, IsNode}
 use Rattle.plane_table.specs.declared.faces.Face.{Face}
 use Rattle.plane_table.specs.Faces.{outline_of}
-use Rattle.bsp_tree.proofs.Sheets.{node_shown}
-use Rattle.bsp_tree.proofs.Growths.{is_fork, make_size}
+use Rattle.bsp_tree.proofs.lemmas.Sheets.{node_shown}
+use Rattle.bsp_tree.proofs.lemmas.Growths.{is_fork, make_size}
 use Rattle.bsp_tree.specs.Links.{is_alike, exchanged_leaf}
 use Rattle.bsp_tree.specs.Shapes.{leaf_of}
 use Rattle.bsp_tree.specs.Growths.{Sheet, tree_on, with_sides_exchanged}
-use Rattle.bsp_tree.proofs.Wholes.{leaf_tree, end_exchanged}
+use Rattle.bsp_tree.proofs.lemmas.Wholes.{leaf_tree, end_exchanged}
 use Rattle.bsp_tree.specs.Partitions.{divide, parts_by_class}
 use Rattle.bsp_boolean.specs.Combined.{combination}
 use Rattle.bsp_boolean.specs.Merges.{merge_of}

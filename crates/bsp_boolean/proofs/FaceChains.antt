@@ -11,7 +11,7 @@ use Rattle.link_forest.specs.declared.link.Link.{Link}
 use Rattle.link_forest.specs.declared.link.Link.TheVariants.{End}
 use Rattle.bsp_tree.specs.declared.growing.GrowStop.{GrowStop}
 use Rattle.bsp_tree.specs.Growths.{SolidGrowth, GrowsBy, HasGrown}
-use Rattle.bsp_tree.proofs.Growths.{leaf_grows}
+use Rattle.bsp_tree.proofs.lemmas.Growths.{leaf_grows}
 use Rattle.bsp_tree.specs.Trees.{BspTree, inside, outside, node_or_leaf}
 use Rattle.bsp_boolean.specs.Chains.{solid_behind_face, chain_of, kept_items, outlines_of, IsChainOf, IsKeptOver}
 

@@ -8,7 +8,7 @@ use Rattle.plane_polygon.specs.Boxes.{box_outline}
 use Rattle.plane_polygon.specs.Parts.{is_behind}
 use Rattle.bsp_tree.specs.Trees.{walk, half_space}
 use Rattle.bsp_tree.specs.Cells.{world_box, IsOfWorld, IsNodePlaneOf}
-use Rattle.bsp_tree.proofs.Worlds.{open_world, half_of_world, box_plane}
+use Rattle.bsp_tree.proofs.lemmas.Worlds.{open_world, half_of_world, box_plane}
 use Rattle.bsp_boolean.specs.LeafSolids.{solid_of_leaf, IsSolidOf}
 use Rattle.bsp_boolean.proofs.Combined.{combined_walks, combined_cells, combined_planes}
 

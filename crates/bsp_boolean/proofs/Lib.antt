@@ -1,6 +1,6 @@
 pub mod Exchanges
 pub mod Merged
-pub mod Solids
+pub mod lemmas
 mod Examples
 pub mod TreeSolids
 pub mod Combined

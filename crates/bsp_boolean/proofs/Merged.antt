@@ -6,7 +6,7 @@ use Rattle.csg_tree.specs.declared.op.Op.TheVariants.{Union, Intersection, Diffe
 use Rattle.csg_tree.specs.HalfSpaceTrees.{truth_of_join}
 use Rattle.bsp_tree.specs.Cells.{IsInCell, IsOfCell, IsOffPlanesOf, IsNodePlaneOf}
 use Rattle.bsp_tree.specs.Trees.{BspTree, inside, outside, node, walk, size, complement}
-use Rattle.bsp_tree.proofs.Complements.{complement_walks, complement_planes, complement_cells}
+use Rattle.bsp_tree.proofs.lemmas.Complements.{complement_walks, complement_planes, complement_cells}
 use Rattle.bsp_boolean.specs.Merges.{merge_of, AreSolidsOfOneCell, IsOperationOn}
 use Rattle.bsp_boolean.proofs.Combined.{combined_walks, combined_cells, combined_planes}
 

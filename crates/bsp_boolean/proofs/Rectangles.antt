@@ -4,14 +4,14 @@ use Rattle.plane_predicate.specs.Space.{Coefficients, Coordinates, meeting_by_cr
 use Rattle.plane_predicate.specs.Sides.{side_of, is_side_behind, is_side_ahead}
 use Rattle.plane_predicate.specs.declared.sides.Side.{Side}
 use Rattle.plane_predicate.specs.declared.sides.Side.TheVariants as lying
-use Rattle.plane_predicate.proofs.Identities.{cramer_on_first, cramer_on_second, cramer_on_third}
+use Rattle.plane_predicate.proofs.lemmas.Identities.{cramer_on_first, cramer_on_second, cramer_on_third}
 use Rattle.plane_polygon.specs.declared.classes.Class.TheVariants.{Behind, Across}
 use Rattle.plane_polygon.specs.Parallels.{HasAllOn}
 use Rattle.plane_polygon.specs.Polygons.{Outline, IsPolygon}
 use Rattle.plane_polygon.specs.Parts.{is_behind, is_ahead, class_by_sides, class_of, edges_kept_by, part_behind}
-use Rattle.plane_polygon.proofs.BoxStarts.{four}
-use Rattle.plane_polygon.proofs.Parts.{behind_polygon}
-use Rattle.plane_table.proofs.Corners.{side_behind, side_ahead}
+use Rattle.plane_polygon.proofs.lemmas.BoxStarts.{four}
+use Rattle.plane_polygon.proofs.lemmas.Parts.{behind_polygon}
+use Rattle.plane_table.proofs.lemmas.Corners.{side_behind, side_ahead}
 
 -- the sides of m on which the four corners lie
 record FourSigns (n e f g h m : Coefficients) (a b c d : Side) : Type 0 where

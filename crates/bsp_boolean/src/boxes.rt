@@ -14,11 +14,11 @@ ghost use Rattle.bsp_boolean.specs.UprightBoxes.{upright_box_faces, table_of, wa
 use crate::chains::grow_faces;
 use crate::leaf_building::BuildStop;
 use bsp_tree::{Edges, Face, Growing, Solid, finish};
+use plain_text::NoMemory;
 use plane_polygon::is_alike;
-use plane_predicate::Plane;
+use plane_predicate::{Plane, planes_keep_their_form};
 use plane_table::PlaneTable;
 use std::alloc::Global;
-use text_place::NoMemory;
 
 // The offset of the world box's planes.
 const WORLD: i64 = 4096;
@@ -69,8 +69,7 @@ fn is_along(plane: &Plane, world: &Plane) -> bool
     ensures alike { IsTrue result → HasSameDirection plane.now world.now }
     ensures plane { IsPlane plane.now }
 {
-    // Reading a number shows the proof what each plane keeps.
-    let _ = &plane.a;
+    planes_keep_their_form(plane);
     is_alike(plane, world)
 }
 

@@ -8,10 +8,10 @@ ghost use Rattle.bsp_tree.specs.Partitions.{divide};
 ghost use Rattle.bsp_boolean.specs.Chains.{solid_after_step, part_behind_all, chain_of, kept_items, outlines_of, part_behind_face, IsChainOf, IsKeptOver, IsStepOver};
 
 use bsp_tree::{GrowStop, Growing, Link};
+use plain_text::NoMemory;
 use plane_polygon::Class;
 use plane_table::{Crossing, Face, Half, PlaneTable, cut, sides_where_across};
 use std::alloc::Global;
-use text_place::NoMemory;
 
 /// How a face of a solid goes on behind another face's plane, with what lies behind it.
 #[derive(Drop)]

@@ -3,7 +3,7 @@
 ghost use Rattle.std.specs.Prelude.{◌≡◌};
 
 use bsp_tree::GrowStop;
-use text_place::NoMemory;
+use plain_text::NoMemory;
 
 /// Why a solid was not built.
 #[derive(Clone, Copy, Debug)]

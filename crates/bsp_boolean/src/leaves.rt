@@ -12,11 +12,11 @@ use crate::boxes::{box_solid, is_box};
 use crate::chains::grow_behind;
 use crate::leaf_building::BuildStop;
 use bsp_tree::{Face, Growing, Solid, finish};
+use plain_text::NoMemory;
 use plane_polygon::world_planes;
 use plane_predicate::Plane;
 use plane_table::{HalfFaces, PlaneTable, half_faces};
 use std::alloc::Global;
-use text_place::NoMemory;
 
 /// The solid of a leaf: the points behind all of its planes, of which there is at least one, in the
 /// world box. Each plane has a point with coordinates at most 4095 in size. `TooBig` comes exactly

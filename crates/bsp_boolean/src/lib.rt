@@ -1,4 +1,4 @@
-//! Booleans of solids, by merging their BSP trees (Bernstein and Fussell).
+//! Boolean operations on solids, by merging their BSP trees (Bernstein and Fussell).
 #![tactic(auto)]
 
 mod boxes;

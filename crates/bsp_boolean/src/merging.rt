@@ -11,9 +11,9 @@ use crate::BuildStop;
 use crate::branches::Merge;
 use bsp_tree::{Growing, MovedNodes, Solid, finish, solid_over};
 use csg_tree::Op;
+use plain_text::NoMemory;
 use plane_table::{PlaneTable, join};
 use std::alloc::Global;
-use text_place::NoMemory;
 
 /// The merge of two solids of one cell: the operation on them, at each point of the cell off all
 /// their planes. Both solids are lent.
@@ -85,9 +85,9 @@ fn merged_within(
     Ok(finish(alloc, growing, root)?)
 }
 
-// For how many nodes a merge of so many takes room before it begins: it may have more nodes than both solids, and one of
-// at most `most` in size has no more than a quarter of that, since a node has three edges at least. What is left of the
-// room in the end is given back.
+// For how many nodes a merge of the given number takes room before it begins: it may have more nodes than both solids, and one
+// of at most `most` in size has no more than a quarter of that, since a node has three edges at least. What is left of the room
+// in the end is given back.
 fn room(nodes: usize, most: u64) -> usize {
     let twice = nodes.saturating_mul(2);
     let limit = most / 4;

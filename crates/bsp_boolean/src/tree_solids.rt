@@ -14,8 +14,8 @@ use crate::building::Builder;
 use crate::{BuildStop, leaf_solid};
 use bsp_tree::Solid;
 use csg_tree::{CsgNode, CsgStore};
+use plain_text::NoMemory;
 use std::alloc::Global;
-use text_place::NoMemory;
 
 /// The most that the size of one node's solid may be.
 pub const MOST_OF_ONE: u64 = 50_000;

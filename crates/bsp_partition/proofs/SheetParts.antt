@@ -12,8 +12,8 @@ use Rattle.bsp_tree.specs.Trees.{BspTree, node, node_or_leaf}
 use Rattle.bsp_tree.specs.Links.{same_leaf}
 use Rattle.bsp_tree.specs.Shapes.{leaf_of}
 use Rattle.bsp_tree.specs.Growths.{Sheet, tree_on, HasTree}
-use Rattle.bsp_tree.proofs.Sheets.{longer_itself, longer_twice, still, stood_on, adds_longer, adds_tree}
-use Rattle.bsp_tree.proofs.Wholes.{leaf_tree}
+use Rattle.bsp_tree.proofs.lemmas.Sheets.{longer_itself, longer_twice, still, stood_on, adds_longer, adds_tree}
+use Rattle.bsp_tree.proofs.lemmas.Wholes.{leaf_tree}
 use Rattle.bsp_tree.specs.declared.part.Part.TheVariants.{Low, High}
 use Rattle.bsp_tree.specs.Partitions.{parts_where_across, parts_where_ahead, parts_where_behind, divide}
 use Rattle.bsp_partition.specs.Parts.{trees_on, AreLinksOf, HasAddedTree, HasParts, HasSideParts}

@@ -1,3 +1,5 @@
+//! One node of a tree, taken out of its numbered list.
+
 use bsp_tree::{Face, Link};
 
 /// A node by itself: its face, and the links to what lies behind and ahead of its plane.

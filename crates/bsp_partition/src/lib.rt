@@ -1,4 +1,4 @@
-//! The parts of solids behind and ahead of the plane of a polygon.
+//! The two parts of a solid, behind and ahead of the plane of a polygon.
 #![tactic(auto)]
 
 ghost use Rattle.std.specs.Prelude.{◌≡◌, IfOk};
@@ -10,10 +10,10 @@ mod parting;
 
 use bsp_tree::{Solid, solid_at, solid_over};
 pub use parting::add_parts;
+use plain_text::NoMemory;
 use plane_polygon::Polygon;
 use plane_table::{PlaneTable, face_of, faces_are_found, join, renumber};
 use std::alloc::Global;
-use text_place::NoMemory;
 
 /// The parts of a solid behind and ahead of the plane of a polygon, where the solid and the polygon
 /// are of one cell. The solid is lent.
@@ -34,7 +34,7 @@ pub fn partition(alloc: Global, solid: &Solid, by: &Polygon) -> Result<(Solid, S
 fn parts_of(alloc: Global, solid: &Solid, by: &Polygon) -> Result<(Solid, Solid), NoMemory>
     ensures { IfOk result (λ r. (tree_of r.0, tree_of r.1) ≡ divide (tree_of solid.now) by.now) }
 {
-    // Brings a law alone: where all planes of a list have numbers, so have those of a face.
+    // Called for its law; does nothing when it runs: where all planes of a list have numbers, so have those of a face.
     faces_are_found();
     let own = face_of(alloc, by)?;
     let (planes, _, root) = solid.parts();

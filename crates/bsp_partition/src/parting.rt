@@ -14,10 +14,10 @@ ghost use Rattle.bsp_partition.specs.Parts.{half_on, high_division, low_division
 
 use crate::fork::Fork;
 use bsp_tree::{Face, Link, NodeId, Nodes, Part, is_same_leaf};
+use plain_text::NoMemory;
 use plane_polygon::Class;
 use plane_table::{CornerSides, Crossing, Half, cut, sides_where_across};
 use std::alloc::Global;
-use text_place::NoMemory;
 
 /// Adds the parts behind and ahead of a face's plane of the tree at a link, and gives their links.
 /// What stands among the nodes stays.

@@ -3,15 +3,15 @@
 use Rattle.std.proofs.Common.{◌≡◌, inl, inr, List, sym, ◌∙◌, subst, arith, ℤ, pos, ◌+ℤ◌, ◌*ℤ◌, ◌<ℤ◌, ◌≤ℤ◌, neg_ℤ}
 use Rattle.std.proofs.Math.IntN.{*ℤ-zero}
 use Rattle.plane_predicate.specs.Space.{Coefficients, Coordinates, value}
-use Rattle.plane_predicate.proofs.IntegerRing.{sums, mul_neg_left, mul_comm_ℤ}
-use Rattle.plane_predicate.proofs.Identities.{combine, value_combine}
-use Rattle.plane_predicate.proofs.Signs.{pos_pos, signs}
+use Rattle.plane_predicate.proofs.lemmas.IntegerRing.{sums, mul_neg_left, mul_comm_ℤ}
+use Rattle.plane_predicate.proofs.lemmas.Identities.{combine, value_combine}
+use Rattle.plane_predicate.proofs.lemmas.Signs.{pos_pos, signs}
 use Rattle.plane_polygon.specs.Polygons.{Outline}
-use Rattle.plane_polygon.proofs.Cuts.{turned}
+use Rattle.plane_polygon.proofs.lemmas.Cuts.{turned}
 use Rattle.bsp_tree.specs.Cells.{IsInCell, IsInClosedCell, IsPolygonOfCell}
-use Rattle.bsp_tree.proofs.Convexity.{in_closed, in_combine}
-use Rattle.bsp_tree.proofs.PolygonsOfCells.{inner_point}
-use Rattle.bsp_tree.proofs.Sides.{LiesBehind, none_ahead}
+use Rattle.bsp_tree.proofs.lemmas.Convexity.{in_closed, in_combine}
+use Rattle.bsp_tree.proofs.lemmas.PolygonsOfCells.{inner_point}
+use Rattle.bsp_tree.proofs.lemmas.Sides.{LiesBehind, none_ahead}
 
 lt_most : (x : ℤ) → x <ℤ pos 0 → x ≤ℤ pos 0
 lt_most x h = omega (arith, sums)

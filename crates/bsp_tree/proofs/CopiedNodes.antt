@@ -9,7 +9,7 @@ use Rattle.link_forest.specs.declared.link.Link.TheVariants.{End, To}
 use Rattle.link_forest.specs.declared.link.NodeId.{NodeId}
 use Rattle.link_forest.specs.declared.forest.Entry.{Entry}
 use Rattle.link_forest.specs.Forests.{entry, least_nodes, AddsNode, IsNode, IsReached, itself, by_behind, by_ahead}
-use Rattle.link_forest.proofs.Numbers.{stays, behind_all}
+use Rattle.link_forest.proofs.lemmas.Numbers.{stays, behind_all}
 use Rattle.plane_table.specs.declared.faces.Face.{Face}
 use Rattle.plane_table.specs.Faces.{outline_of}
 use Rattle.plane_table.specs.Joins.{AreNumbersOf, AreNumbersOfUsed, AreMarkedUsed}
@@ -17,7 +17,7 @@ use Rattle.bsp_tree.specs.Shapes.{tree_of_branch, tree_of, tree_at_link, AreFace
 use Rattle.bsp_tree.specs.Trees.{size}
 use Rattle.bsp_tree.specs.Growths.{Sheet, tree_on, HasTree, HasGrownWhole}
 use Rattle.bsp_tree.specs.Copies.{AreCopied, AreFoundOver, AreUsed}
-use Rattle.bsp_tree.proofs.Wholes.{leaf_tree, same_id, node_same}
+use Rattle.bsp_tree.proofs.lemmas.Wholes.{leaf_tree, same_id, node_same}
 
 pub none_copied : (planes : List Coefficients) (nodes : List (Entry Face)) (sheet : Sheet) → sheet.nodes ≡ [] → AreCopied planes nodes 0 sheet
 none_copied planes nodes sheet none = record {

@@ -1,24 +1,7 @@
-pub mod Opposites
-pub mod SameNumbers
-pub mod Convexity
-pub mod Openness
+pub mod lemmas
 pub mod SamePoints
-pub mod PolygonsOfCells
-pub mod Sides
-pub mod Walks
-pub mod Complements
-pub mod Worlds
-pub mod Halves
-pub mod NearPoints
-pub mod Sheets
-pub mod Growths
-pub mod SheetFaces
-pub mod Wholes
 pub mod CopiedNodes
 pub mod PassedRanges
 pub mod Apart
 pub mod Ways
-pub mod DividedWalks
-pub mod DividedHalves
-pub mod DividedPlanes
 mod Examples

@@ -3,7 +3,7 @@ use Rattle.std.proofs.Common.{◌≡◌, inl, inr, ℕ, ◌+◌, ◌-◌, ◌<�
 use Rattle.std.specs.Prelude.{nat_lt, if◌then◌else◌, IfSome}
 use Rattle.std.proofs.lemmas.Bool.{cases_lt}
 use Rattle.std.proofs.lemmas.Option.{slice_get_within}
-use Rattle.link_forest.proofs.Numbers.{which}
+use Rattle.link_forest.proofs.lemmas.Numbers.{which}
 use Rattle.std.proofs.lemmas.Bool.Decides.{nat_tests}
 use Rattle.plane_predicate.specs.Space.{Coefficients}
 use Rattle.link_forest.specs.declared.link.Link.{Link}
@@ -19,8 +19,8 @@ use Rattle.bsp_tree.specs.Growths.{Sheet, SolidGrowth, tree_on, HasGrown, GrowsB
 use Rattle.bsp_tree.specs.Moves.{MovedSheet, IsMovedNode}
 use Rattle.bsp_tree.specs.Ranges.{Spans, none, all, link_shifted_by, AreFirsts, CanShift, HasOneNodeMore}
 use Rattle.bsp_tree.specs.declared.growing.GrowStop.{GrowStop}
-use Rattle.bsp_tree.proofs.Growths.{leaf_grows, stops, stops_after}
-use Rattle.bsp_tree.proofs.Wholes.{leaf_tree, node_same, same_id}
+use Rattle.bsp_tree.proofs.lemmas.Growths.{leaf_grows, stops, stops_after}
+use Rattle.bsp_tree.proofs.lemmas.Wholes.{leaf_tree, node_same, same_id}
 
 -- a tree's nodes stand from the first number on, and its own is the last of them
 abbrev Within : ℕ → Link → ℕ → Type 0

@@ -2,14 +2,14 @@
 use Rattle.std.proofs.Common.{◌↔◌, inl, inr, ℕ, zero, suc, List, [], ◌∷◌, subst, arith, ℤ, pos, negsuc, ◌+ℤ◌, ◌*ℤ◌, ◌<ℤ◌, ◌≤ℤ◌, unsigned_abs}
 use borrow.Author.Differences.{product_is}
 use Rattle.plane_predicate.specs.Space.{Coefficients, Coordinates, value, opposite_of}
-use Rattle.plane_predicate.proofs.IntegerRing.{sums}
-use Rattle.plane_predicate.proofs.Identities.{combine, value_combine}
-use Rattle.plane_predicate.proofs.Sizes.{size_parts}
-use Rattle.plane_predicate.proofs.Signs.{signs}
+use Rattle.plane_predicate.proofs.lemmas.IntegerRing.{sums}
+use Rattle.plane_predicate.proofs.lemmas.Identities.{combine, value_combine}
+use Rattle.plane_predicate.proofs.lemmas.Sizes.{size_parts}
+use Rattle.plane_predicate.proofs.lemmas.Signs.{signs}
 use Rattle.plane_polygon.specs.Polygons.{Outline}
 use Rattle.bsp_tree.specs.Trees.{BspTree, inside, outside, node}
 use Rattle.bsp_tree.specs.Cells.{IsInCell, IsInClosedCell, IsPolygonOfCell, IsOfCell, AllBehind, NoneAhead}
-use Rattle.bsp_tree.proofs.Convexity.{in_combine}
+use Rattle.bsp_tree.proofs.lemmas.Convexity.{in_combine}
 
 -- two lists of planes give a cell with the same points
 abbrev pub HaveOnePoints : List Coefficients → List Coefficients → Type 0

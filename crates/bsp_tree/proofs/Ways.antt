@@ -2,24 +2,24 @@
 use Rattle.std.proofs.Common.{◌≡◌, ◌≢◌, inl, inr, ℕ, suc, ◌<◌, Bool, true, false, List, refl, sym, ap, ◌∙◌, subst, arith, ℤ, pos, negsuc, ◌+ℤ◌, ◌-ℤ◌, ◌*ℤ◌, ◌<ℤ◌, ◌≤ℤ◌, neg_ℤ}
 use Rattle.std.proofs.Math.IntN.{*ℤ-zero}
 use Rattle.plane_predicate.specs.Space.{Coefficients, Coordinates, value, orientation_seen_from, opposite_of, HasItsPointsOn, is_same}
-use Rattle.plane_predicate.proofs.IntegerRing.{sums}
-use Rattle.plane_predicate.proofs.Identities.{combine, value_combine}
-use Rattle.plane_predicate.proofs.Signs.{zero_cancel, neg_neg}
-use Rattle.plane_predicate.proofs.SamePlanes.{equal_or_opposite}
+use Rattle.plane_predicate.proofs.lemmas.IntegerRing.{sums}
+use Rattle.plane_predicate.proofs.lemmas.Identities.{combine, value_combine}
+use Rattle.plane_predicate.proofs.lemmas.Signs.{zero_cancel, neg_neg}
+use Rattle.plane_predicate.proofs.lemmas.SamePlanes.{equal_or_opposite}
 use Rattle.plane_polygon.specs.Polygons.{Outline, edge_count, corner, IsPolygon}
 use Rattle.plane_polygon.specs.declared.classes.Class.{Class}
 use Rattle.plane_polygon.specs.declared.classes.Class.TheVariants.{Behind, Ahead, On, Across}
 use Rattle.plane_polygon.specs.Parts.{class_of}
-use Rattle.plane_polygon.proofs.Hull.{corner_on, plane_directed}
-use Rattle.plane_polygon.proofs.FourPoints.{four_points}
-use Rattle.plane_polygon.proofs.Rounds.{step, step_below, corner_from, any_turn}
+use Rattle.plane_polygon.proofs.lemmas.Hull.{corner_on, plane_directed}
+use Rattle.plane_polygon.proofs.lemmas.FourPoints.{four_points}
+use Rattle.plane_polygon.proofs.lemmas.Rounds.{step, step_below, corner_from, any_turn}
 use Rattle.bsp_tree.specs.Cells.{IsInCell, IsPolygonOfCell}
-use Rattle.bsp_tree.proofs.Opposites.{opposite_zero, opposite_twice, behind_opposite_above}
-use Rattle.bsp_tree.proofs.SameNumbers.{not_same}
-use Rattle.bsp_tree.proofs.Convexity.{in_closed, in_combine}
-use Rattle.bsp_tree.proofs.Openness.{often, in_near}
-use Rattle.bsp_tree.proofs.PolygonsOfCells.{inner_point}
-use Rattle.bsp_tree.proofs.Sides.{HasBehind, LiesBehind, lies_behind, lies_ahead, lies_on, lies_across, none_ahead}
+use Rattle.bsp_tree.proofs.lemmas.Opposites.{opposite_zero, opposite_twice, behind_opposite_above}
+use Rattle.bsp_tree.proofs.lemmas.SameNumbers.{not_same}
+use Rattle.bsp_tree.proofs.lemmas.Convexity.{in_closed, in_combine}
+use Rattle.bsp_tree.proofs.lemmas.Openness.{often, in_near}
+use Rattle.bsp_tree.proofs.lemmas.PolygonsOfCells.{inner_point}
+use Rattle.bsp_tree.proofs.lemmas.Sides.{HasBehind, LiesBehind, lies_behind, lies_ahead, lies_on, lies_across, none_ahead}
 use Rattle.bsp_tree.proofs.Apart.{not_both, at_crossing}
 
 -- the five ways

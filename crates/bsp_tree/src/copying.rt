@@ -12,10 +12,10 @@ use crate::links::exchanged_leaf;
 use crate::nodes::Nodes;
 use crate::solid::Solid;
 use link_forest::{Forest, Link, NodeId};
+use plain_text::NoMemory;
 use plane_predicate::Plane;
 use plane_table::{Face, PlaneTable, renumber};
 use std::alloc::Global;
-use text_place::NoMemory;
 
 /// Adds the tree at a link of other nodes over the same table, or its complement, to a solid in the
 /// making.

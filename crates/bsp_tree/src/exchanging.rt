@@ -9,9 +9,9 @@ ghost use Rattle.bsp_tree.specs.Shapes.{tree_of};
 use crate::copying::solid_over;
 use crate::finishing::solid_at;
 use crate::solid::Solid;
+use plain_text::NoMemory;
 use plane_table::{PlaneTable, join};
 use std::alloc::Global;
-use text_place::NoMemory;
 
 /// In and Out exchanged: each point off the planes changes sides.
 pub fn exchange(alloc: Global, solid: &Solid) -> Result<Solid, NoMemory>

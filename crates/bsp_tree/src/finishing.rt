@@ -11,10 +11,10 @@ use crate::growing::Growing;
 use crate::nodes::Nodes;
 use crate::solid::Solid;
 use link_forest::{Link, NodeId};
+use plain_text::NoMemory;
 use plane_predicate::Plane;
 use plane_table::{PlaneTable, keep_used, mark_used};
 use std::alloc::Global;
-use text_place::NoMemory;
 
 /// The tree at a link of nodes, or its complement, as a solid.
 pub fn solid_at(

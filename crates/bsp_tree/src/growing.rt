@@ -3,10 +3,10 @@
 use crate::links::is_same_leaf;
 use crate::nodes::Nodes;
 use link_forest::Link;
+use plain_text::NoMemory;
 use plane_table::{Face, PlaneTable};
 use std::alloc::Global;
 use std::marker::Model;
-use text_place::NoMemory;
 
 /// Why a solid can't grow.
 #[derive(Clone, Copy, Debug)]

@@ -8,10 +8,10 @@ ghost use Rattle.bsp_tree.specs.Shapes.{tree_of};
 
 use crate::solid::Solid;
 use link_forest::{Forest, Link};
-use plane_predicate::Plane;
+use plain_text::NoMemory;
+use plane_predicate::{Plane, planes_keep_their_form};
 use plane_table::half_face;
 use std::alloc::Global;
-use text_place::NoMemory;
 
 /// The points behind a plane, in the world box. The plane has a point with coordinates at most
 /// 4095 in size.
@@ -20,8 +20,7 @@ pub fn half(alloc: Global, plane: &Plane) -> Result<Solid, NoMemory>
     ensures tree { IfOk result (λ s. tree_of s ≡ half_space plane.now) }
     ensures world { IfOk result (λ s. IsOfWorld (tree_of s)) }
 {
-    // Reading a number shows the proof what each plane keeps.
-    let _ = &plane.a;
+    planes_keep_their_form(plane);
     half_of(alloc, plane)
 }
 

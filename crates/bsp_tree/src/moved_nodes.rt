@@ -9,11 +9,11 @@ use crate::growing::{GrowStop, Growing};
 use crate::ranges::{Ranges, link_shifted_by};
 use crate::solid::Solid;
 use link_forest::{Link, NodeId};
+use plain_text::NoMemory;
 use plane_predicate::Plane;
 use plane_table::{Face, PlaneTable, renumber};
 use std::alloc::Global;
 use std::marker::Model;
-use text_place::NoMemory;
 
 /// The nodes of a solid, whose faces are given over another table as they are asked for.
 ///

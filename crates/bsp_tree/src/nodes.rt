@@ -3,10 +3,10 @@
 ghost use Rattle.std.specs.Prelude.{◌≡◌, ◌<◌, [], length, take, IfOk, OnOk, OnErr};
 
 use link_forest::{Forest, Link, NodeId};
+use plain_text::NoMemory;
 use plane_table::{Face, PlaneTable};
 use std::alloc::Global;
 use std::marker::Model;
-use text_place::NoMemory;
 
 /// Nodes of BSP trees in one list, over one table of planes. A node that is added stays until the
 /// list is cut back.

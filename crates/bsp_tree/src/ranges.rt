@@ -8,10 +8,10 @@ ghost use Rattle.plane_table.specs.declared.faces.Face.{Face};
 ghost use Rattle.bsp_tree.specs.Ranges.{link_shifted_by, AreFirsts, CanShift, Spans};
 
 use link_forest::{Forest, Link, NodeId};
+use plain_text::NoMemory;
 use plane_table::Face;
 use std::alloc::Global;
 use std::marker::Model;
-use text_place::NoMemory;
 
 /// The nodes of a forest of faces, of which those up to some number stand in post-order: the nodes of
 /// each such node's tree are a range that ends with it. Merges make all nodes so, and a forest that is

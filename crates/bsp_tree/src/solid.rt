@@ -7,11 +7,11 @@ ghost use Rattle.bsp_tree.specs.Trees.{size};
 ghost use Rattle.bsp_tree.specs.Shapes.{tree_at_link};
 
 use link_forest::{Forest, Link, NodeId};
+use plain_text::NoMemory;
 use plane_predicate::Plane;
 use plane_table::Face;
 use std::alloc::Global;
 use std::marker::Model;
-use text_place::NoMemory;
 
 /// A solid, as a binary space partition: a table of planes, and nodes in one list, linked by number.
 /// A node has a face, whose plane divides a cell, and the trees of what lies behind the plane and

@@ -1,3 +1,5 @@
+//! Tests that arguments of a call reach the parameters they name or stand for.
+
 use crate::reading::at;
 use scad_ast::{Arg, Expr, Param};
 use scad_scope::{Matching, arguments};

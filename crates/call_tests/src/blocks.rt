@@ -1,3 +1,5 @@
+//! Tests that the blocks of a program are numbered in order, with the names that each assigns.
+
 use crate::reading::{at, read};
 use scad_scope::{BlockText, Blocks};
 use std::process::Abort;

@@ -1,3 +1,5 @@
+//! Tests that a special name has its newest value, and an older one again once that is cut off.
+
 use crate::reading::at;
 use scad_scope::Scopes;
 use scad_value::Value;

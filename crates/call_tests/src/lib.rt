@@ -1,5 +1,5 @@
-//! Tests of public calls that no case shows: of streams, numerals and replies, of scopes, definitions, blocks and arguments by
-//! number, and of values that are too long.
+//! Tests of public calls that no case covers: streams, numerals, forests, replies, scopes, definitions, blocks and arguments by
+//! number, and values that are too long.
 #![tactic(auto)]
 
 #[cfg(test)]
@@ -8,6 +8,8 @@ mod arguments;
 mod blocks;
 #[cfg(test)]
 mod dynamic;
+#[cfg(test)]
+mod forests;
 #[cfg(test)]
 mod numerals;
 #[cfg(test)]

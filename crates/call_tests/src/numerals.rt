@@ -1,3 +1,5 @@
+//! Tests that numerals are appended one after another.
+
 use std::test::Fail;
 use text_place::push_decimal;
 

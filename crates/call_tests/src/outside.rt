@@ -1,3 +1,5 @@
+//! Tests of sources and sinks: pieces, faults, the bound of the input, and the readers and writers of std.
+
 use outside_io::{
     Failed, MemorySink, MemorySource, ReadEnd, ReadSource, Sink, Source, WriteSink, read_to_end,
     write_all,

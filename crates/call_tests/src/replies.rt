@@ -1,3 +1,5 @@
+//! Tests of the reply that too many corners or vertices have.
+
 use reply_text::{PassedLimit, Reply, push_reply};
 use std::test::Fail;
 

@@ -1,3 +1,5 @@
+//! Tests that functions and modules are found from the inner scope outward.
+
 ghost use Rattle.std.specs.Prelude.{◌<◌, length};
 ghost use Rattle.scad_scope.specs.Table.{rows_of};
 

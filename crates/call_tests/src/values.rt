@@ -16,7 +16,7 @@ fn zeros(alloc: Global, count: u32) -> Result<Value, NoMemory> {
     Ok(Value::List(Values::of(items)))
 }
 
-// The empty list in so many lists.
+// The empty list in the given number of lists.
 fn nested(alloc: Global, times: u32) -> Result<Value, NoMemory> {
     let mut value = Value::List(Values::of(Vec::new(alloc)));
     for _ in 0..times {

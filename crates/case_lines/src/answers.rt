@@ -4,9 +4,9 @@ use crate::lines::lines_of;
 use crate::stop::CaseStop;
 use crate::text::put;
 use outside_io::{ReadSource, Sink, Source, WriteSink, read_to_end, write_all};
+use plain_text::{Bytes, NoMemory};
 use std::alloc::Global;
 use std::process::ExitCode;
-use text_place::{Bytes, NoMemory};
 
 // The most bytes of all cases.
 const MOST_BYTES: usize = 1 << 20;

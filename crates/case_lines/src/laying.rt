@@ -23,7 +23,8 @@ pub fn laying_of(word: &[u8]) -> Option<Laying> {
     found(&LAYINGS, word)
 }
 
-// Puts the planes of an axis at so many coordinates from the greatest down to 1, each seen from where it is greater.
+// Puts the planes of an axis at the given number of coordinates from the greatest down to 1, each seen from where it is
+// greater.
 fn lay_steps(walls: &mut Walls, axis: i64, count: i64) -> Result<(), CaseStop> {
     for below in 0..count {
         walls.put(high(axis, count.saturating_sub(below)))?;

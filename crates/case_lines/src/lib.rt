@@ -1,12 +1,12 @@
-//! What programs that answer cases have in common: cases on lines, parts that stand many times, phrases of a word and
-//! numbers, what follows phrases, planes that phrases put, runs that are told once, and text behind what was written.
+//! What the programs that answer cases share: cases on lines, repeated parts, phrases of a word and numbers, an interpreter of
+//! phrases, planes that phrases add, runs that are reported once, and appended text.
 //!
-//! Standard input has a case on each line. A line that begins with `#` and an empty line are no cases. Standard output
-//! has each line again, and below a case its answer behind four spaces. `rt ci` compares that with the file `stdout`,
+//! Standard input has a case on each line. An empty line and a line that begins with `#` are not cases. Standard output repeats
+//! each line, and has the answer to a case below it, behind four spaces. `rt ci` compares the output with the file `stdout`,
 //! which was written by hand; `stdin` is that file without its answers.
 //!
-//! In a case `` `N TEXT` `` stands for N times TEXT, and `` `N` `` for the byte N, such as 10, a newline. Phrases have a
-//! comma and a space between them, and parts of a case a stroke `|`.
+//! In a case, `` `N TEXT` `` stands for N copies of TEXT, and `` `N` `` for the byte N: 10 is a newline. A comma and a space
+//! separate phrases, and a stroke `|` separates the parts of a case.
 #![tactic(auto)]
 
 mod answers;

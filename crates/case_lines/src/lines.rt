@@ -1,7 +1,7 @@
 //! Lines.
 
+use plain_text::{Bytes, NoMemory};
 use std::alloc::Global;
-use text_place::{Bytes, NoMemory};
 
 /// The lines of some bytes, each of which ends with a newline.
 pub fn lines_of(alloc: Global, bytes: &[u8]) -> Result<Vec<Bytes>, NoMemory> {

@@ -1,8 +1,8 @@
 //! Phrases: a word, and numbers behind it.
 
 use crate::text::cut;
+use plain_text::NoMemory;
 use std::alloc::Global;
-use text_place::NoMemory;
 
 /// A word, and the numbers behind it up to the first word that is none.
 #[derive(Drop)]

@@ -1,10 +1,10 @@
 //! Sources in which parts stand many times.
 
 use crate::text::{cut, put};
+use plain_text::{NoMemory, read_decimal};
 use std::alloc::Global;
-use text_place::{NoMemory, read_decimal};
 
-// What two backticks enclose: a number and a text, which stands so many times, or the number of a byte.
+// What two backticks enclose: a number and a text, which stands that number of times, or the number of a byte.
 fn push_enclosed(source: &mut Vec<u8>, enclosed: &[u8]) -> Result<(), NoMemory> {
     let (digits, text) = cut(enclosed);
     let number = read_decimal(digits).unwrap_or(0);

@@ -4,7 +4,7 @@ use crate::stop::CaseStop;
 use crate::text::put;
 use std::alloc::Global;
 
-/// What so many runs write, of which there is one at least: once, where it is the same each time, and else what the first one
+/// What the given number of runs write, at least one: once, where it is the same each time, and else what the first one
 /// writes, and the first other one.
 pub fn put_runs<F: Fn(&mut Vec<u8>) -> Result<(), CaseStop>>(
     alloc: Global,

@@ -1,7 +1,7 @@
 //! Why a case has no answer.
 
+use plain_text::NoMemory;
 use std::alloc::{AllocError, AllocFailed};
-use text_place::NoMemory;
 
 #[derive(Clone, Copy, PartialEq, Eq)]
 pub enum CaseStop {

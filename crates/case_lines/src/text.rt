@@ -1,7 +1,7 @@
 //! Text and numbers, written behind what was written.
 
+use plain_text::{NoMemory, push_decimal};
 use std::alloc::Global;
-use text_place::{NoMemory, push_decimal};
 
 pub fn put(out: &mut Vec<u8>, text: &[u8]) -> Result<(), NoMemory> {
     out.extend_from_slice(text)?;

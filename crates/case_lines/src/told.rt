@@ -2,9 +2,9 @@
 
 use crate::stop::CaseStop;
 use crate::text::{put_numbers, put_tuple};
+use plain_text::NoMemory;
 use plane_predicate::{Plane, Unit};
 use std::alloc::Global;
-use text_place::NoMemory;
 
 pub fn put_plane(alloc: Global, out: &mut Vec<u8>, plane: &Plane) -> Result<(), NoMemory> {
     put_numbers(alloc, out, &[plane.a, plane.b, plane.c, plane.d])

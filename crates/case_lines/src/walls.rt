@@ -4,10 +4,10 @@ ghost use Rattle.std.specs.Prelude.{All, IfSome};
 ghost use Rattle.plane_predicate.specs.Space.{point_at, IsInReach, ComesInReach};
 
 use crate::stop::CaseStop;
+use plain_text::NoMemory;
 use plane_predicate::{Plane, plane_through};
 use std::alloc::Global;
 use std::marker::Model;
-use text_place::NoMemory;
 
 // The plane through three points whose coordinates are at most 4095 in size.
 fn laid(p: [i64; 3], q: [i64; 3], r: [i64; 3]) -> Option<Plane>

@@ -9,17 +9,17 @@ use Rattle.std.proofs.lemmas.Bool.Decides.{Decides-and, Decides-int_eq}
 use Rattle.std.proofs.lemmas.List.{map-append}
 use Rattle.std.proofs.lemmas.List.Elements.{recursion_from_All}
 use Rattle.plane_predicate.specs.Space.{Coefficients, Coordinates, inner_product, orientation_seen_from, value, has_same_numbers}
-use Rattle.plane_predicate.proofs.IntegerRing.{sums}
-use Rattle.plane_predicate.proofs.Polynomials.{var, num, times, minus, ring}
-use Rattle.plane_predicate.proofs.SamePlanes.{directed_above}
-use Rattle.plane_predicate.proofs.Signs.{signs, neg_pos, pos_neg, pos_pos, zero_cancel}
+use Rattle.plane_predicate.proofs.lemmas.IntegerRing.{sums}
+use Rattle.plane_predicate.proofs.lemmas.Polynomials.{var, num, times, minus, ring}
+use Rattle.plane_predicate.proofs.lemmas.SamePlanes.{directed_above}
+use Rattle.plane_predicate.proofs.lemmas.Signs.{signs, neg_pos, pos_neg, pos_pos, zero_cancel}
 use Rattle.primitives.specs.DirectedEdges.{next_in_face}
 use Rattle.closed_faces.specs.Crossings.{crossing_with_face, crossings_with_faces, edge_of_face, edges_of_face, goes_ahead, is_left_of_all, is_same_segment, meeting_point, passage, reversed_segment, count_of_corners, vertex, volume, HavePairedEdges, Segment, Face, IsConvexFace, IsCutByPlane, ArePolygonsInGeneralPosition}
 use Rattle.plane_predicate.specs.Sums.{sum_over}
 use Rattle.closed_faces.proofs.Coplanar.{turn_meeting, value_meeting, volume_back, volume_pairs}
-use Rattle.closed_faces.proofs.Edges.{after_in}
+use Rattle.closed_faces.proofs.lemmas.Edges.{after_in}
 use Rattle.closed_faces.proofs.Inside.{above_decides, ahead_decides, below_decides, lean, sum_none, IsSpot}
-use Rattle.closed_faces.proofs.Sums.{cancelled_total, same_below, same_bool, sum_below, sum_of_differences, sum_of_sums, total_append, total_flat}
+use Rattle.closed_faces.proofs.lemmas.Sums.{cancelled_total, same_below, same_bool, sum_below, sum_of_differences, sum_of_sums, total_append, total_flat}
 use Rattle.closed_faces.proofs.Windings.{downs, one, ups, winding}
 use Rattle.plane_predicate.specs.Indices.{indices_below}
 

@@ -1,11 +1,11 @@
 -- Turns of points on one plane, and determinants of four points.
 use Rattle.std.proofs.Common.{◌≡◌, List, [], ◌∷◌, ◌+◌, ◌<◌, refl, sym, ap, ap₂, ◌∙◌, arith, ℤ, pos, ◌+ℤ◌, ◌-ℤ◌, ◌*ℤ◌, ◌<ℤ◌, ◌≤ℤ◌, unsigned_abs}
 use Rattle.plane_predicate.specs.Space.{Coefficients, Coordinates, inner_product, orientation_seen_from, value}
-use Rattle.plane_predicate.proofs.IntegerRing.{sums, zero_mul}
-use Rattle.plane_predicate.proofs.Polynomials.{Poly, var, num, plus, times, minus, ring}
-use Rattle.plane_predicate.proofs.SamePlanes.{directed_above}
-use Rattle.plane_predicate.proofs.Signs.{zero_cancel}
-use Rattle.plane_predicate.proofs.Vectors.{Form, Place, determinantP, form, innerP, of_plane, of_point, place, turnP, valueP}
+use Rattle.plane_predicate.proofs.lemmas.IntegerRing.{sums, zero_mul}
+use Rattle.plane_predicate.proofs.lemmas.Polynomials.{Poly, var, num, plus, times, minus, ring}
+use Rattle.plane_predicate.proofs.lemmas.SamePlanes.{directed_above}
+use Rattle.plane_predicate.proofs.lemmas.Signs.{zero_cancel}
+use Rattle.plane_predicate.proofs.lemmas.Vectors.{Form, Place, determinantP, form, innerP, of_plane, of_point, place, turnP, valueP}
 use Rattle.closed_faces.specs.Crossings.{meeting_point, volume}
 
 abbrev volumeP : Place → Place → Place → Place → Poly
@@ -54,7 +54,8 @@ no_volume n p q r s d hp hq hr hs =
 times_none : (k x : ℤ) → x ≡ pos 0 → k *ℤ x ≡ pos 0
 times_none k x e = ap (λ (t : ℤ). k *ℤ t) e ∙ ring (k ∷ []) (times (var 0) (num (pos 0))) (num (pos 0)) refl
 
--- four points on one plane: any other plane's values at them, each times the orientation_seen_from of the others, sum to 0 by turns
+-- four points on one plane: any other plane's values at them, each times the orientation_seen_from of the others, sum to 0 by
+-- turns
 pub four_points : (e n : Coefficients) (p q r s : Coordinates) → HasDirection n → IsOn n p → IsOn n q → IsOn n r → IsOn n s → value e p *ℤ orientation_seen_from n q r s -ℤ value e q *ℤ orientation_seen_from n p r s +ℤ value e r *ℤ orientation_seen_from n p q s -ℤ value e s *ℤ orientation_seen_from n p q r ≡ pos 0
 four_points e n p q r s d hp hq hr hs = five_points e n p q r s ∙ times_none (inner_product e n) (volume p q r s) (no_volume n p q r s d hp hq hr hs)
 

@@ -8,13 +8,13 @@ use Rattle.std.proofs.lemmas.Bool.Decides.{nat_tests, Decides-and}
 use Rattle.std.proofs.lemmas.Int.{ints}
 use Rattle.std.proofs.lemmas.List.Folds.{list_all-append, list_all-map}
 use Rattle.plane_predicate.specs.Space.{Coefficients, Coordinates, orientation_seen_from, value}
-use Rattle.plane_predicate.proofs.IntegerRing.{sums}
-use Rattle.plane_predicate.proofs.Signs.{signs, least_least, least_most, most_least, most_most, neg_neg, neg_pos, pos_cancel, pos_neg, pos_pos}
+use Rattle.plane_predicate.proofs.lemmas.IntegerRing.{sums}
+use Rattle.plane_predicate.proofs.lemmas.Signs.{signs, least_least, least_most, most_least, most_most, neg_neg, neg_pos, pos_cancel, pos_neg, pos_pos}
 use Rattle.primitives.specs.DirectedEdges.{next_in_face}
 use Rattle.closed_faces.specs.Crossings.{edge_of_face, edges_of_face, goes_ahead, is_left_of_all, count_of_corners, vertex, Face, IsConvexFace, IsCutByPlane}
 use Rattle.closed_faces.proofs.Coplanar.{between, four_points, no_times, side_plane, side_seen, turn_back, turn_none, turn_round, weight_plane, weight_seen}
-use Rattle.closed_faces.proofs.Edges.{after_in, after_inner, after_last, round_again, same_round}
-use Rattle.closed_faces.proofs.Sums.{last_or_below, sum_below, sum_of_differences, zero_below}
+use Rattle.closed_faces.proofs.lemmas.Edges.{after_in, after_inner, after_last, round_again, same_round}
+use Rattle.closed_faces.proofs.lemmas.Sums.{last_or_below, sum_below, sum_of_differences, zero_below}
 use Rattle.plane_predicate.specs.Indices.{indices_below}
 
 -- ---- numbers

@@ -1,7 +1,6 @@
-pub mod Sums
-pub mod Edges
+pub mod lemmas
 pub mod Coplanar
 pub mod Inside
 pub mod Windings
 pub mod Borders
-mod Rows
+pub mod Rows

@@ -1,12 +1,13 @@
 -- Worked rows: ways and triangles that cross the faces of a cube and of a tetrahedron.
 use Rattle.std.proofs.Common.{◌≡◌, ◌≢◌, ◌∙◌, ◌+◌, ◌<◌, ℕ, zero, suc, List, [], ◌∷◌, map, flat_map, refl, arith, ℤ, pos, negsuc, ◌<ℤ◌, unsigned_abs}
 use Rattle.plane_predicate.specs.Space.{Coefficients, Coordinates, orientation_seen_from, value}
-use Rattle.plane_predicate.proofs.IntegerRing.{sums}
+use Rattle.plane_predicate.proofs.lemmas.IntegerRing.{sums}
 use Rattle.primitives.specs.DirectedEdges.{next_in_face}
 use Rattle.closed_faces.specs.Crossings.{crossing_with_face, crossings_with_faces, edges_of_face, is_same_segment, reversed_segment, vertex, volume, HavePairedEdges, Segment, Face, IsConvexFace, ArePolygonsInGeneralPosition}
 use Rattle.closed_faces.specs.Sums.{times_in}
+use Rattle.closed_faces.specs.Worked.{worked_triangle as triangle, worked_square as high_x}
 use Rattle.closed_faces.proofs.Borders.{edge_decides}
-use Rattle.closed_faces.proofs.Sums.{times_map}
+use Rattle.closed_faces.proofs.lemmas.Sums.{times_map}
 use Rattle.plane_predicate.specs.Sums.{sum_over}
 
 abbrev at : ℤ → ℤ → ℤ → Coordinates
@@ -39,9 +40,6 @@ beyond_x = at (pos 7) (pos 3) (pos 2)
 
 abbrev beyond_y : Coordinates
 beyond_y = at (pos 2) (pos 9) (pos 3)
-
-abbrev triangle : Face
-triangle = record { plane = plane (negsuc 4) (negsuc 10) (pos 41) (pos 14); corners = inside ∷ beyond_x ∷ beyond_y ∷ [] }
 
 leaves_by_x : crossings_with_faces cube (way inside beyond_x) ≡ pos 1
 leaves_by_x = refl
@@ -122,16 +120,13 @@ triangle_convex =
           k hk i hi;
     }
 
-abbrev high_x : Face
-high_x = record { plane = plane (pos 1) (pos 0) (pos 0) (pos 4); corners = at (pos 4) (pos 0) (pos 0) ∷ at (pos 4) (pos 4) (pos 0) ∷ at (pos 4) (pos 4) (pos 4) ∷ at (pos 4) (pos 0) (pos 4) ∷ [] }
-
 not_zero : (v : ℤ) → (0 < unsigned_abs v) → v ≢ pos 0
 not_zero (pos zero) h e = omega (arith, h)
 not_zero (pos (suc n)) h e = omega (arith, sums, e)
 not_zero (negsuc n) h e = omega (arith, sums, e)
 
 -- and it is in general position with the cube's face of high x
-triangle_general : ArePolygonsInGeneralPosition triangle high_x
+pub triangle_general : ArePolygonsInGeneralPosition triangle high_x
 triangle_general =
     let Apart : ℕ → ℕ → Type 0 = λ i j. volume (vertex triangle i) (vertex triangle (next_in_face i 3)) (vertex high_x j) (vertex high_x (next_in_face j 4)) ≢ pos 0 in
     let some : (v : ℤ) → (0 < unsigned_abs v) → v ≢ pos 0 = not_zero in

@@ -2,14 +2,14 @@
 use Rattle.std.proofs.Common.{◌≡◌, ◌≢◌, ◌⊎◌, inl, inr, ℕ, zero, suc, ◌+◌, ◌<◌, ◌≤◌, Bool, true, false, cond, ◌&&◌, List, [], ◌∷◌, refl, sym, ap, ap₂, ◌∙◌, subst, arith, int_lt, ℤ, pos, ◌+ℤ◌, ◌-ℤ◌, ◌*ℤ◌, ◌<ℤ◌, ◌≤ℤ◌}
 use Rattle.std.proofs.lemmas.Bool.{true≢false}
 use Rattle.plane_predicate.specs.Space.{Coefficients, Coordinates, orientation_seen_from, value}
-use Rattle.plane_predicate.proofs.IntegerRing.{sums}
-use Rattle.plane_predicate.proofs.Signs.{signs, least_least, least_most, most_least, most_most, neg_pos, pos_neg, pos_pos}
+use Rattle.plane_predicate.proofs.lemmas.IntegerRing.{sums}
+use Rattle.plane_predicate.proofs.lemmas.Signs.{signs, least_least, least_most, most_least, most_most, neg_pos, pos_neg, pos_pos}
 use Rattle.primitives.specs.DirectedEdges.{next_in_face}
 use Rattle.closed_faces.specs.Crossings.{edge_of_face, goes_ahead, is_left_of_all, count_of_corners, vertex, Face, IsConvexFace}
 use Rattle.closed_faces.proofs.Coplanar.{between, side_plane, side_seen, weight_plane, weight_seen}
-use Rattle.closed_faces.proofs.Edges.{after_in}
+use Rattle.closed_faces.proofs.lemmas.Edges.{after_in}
 use Rattle.closed_faces.proofs.Inside.{ahead_decides, all_or_some, above_decides, below_decides, both_ways, height, lean, least_left, left_decides, not_inside, not_true, one_down, one_side, one_up, other_sign, same_or_other, some_down, step_down, step_up, sum_none, sum_one, AreAbove, AreBelow, IsDown, IsSpot, IsUp}
-use Rattle.closed_faces.proofs.Sums.{sum_below, sum_of_differences}
+use Rattle.closed_faces.proofs.lemmas.Sums.{sum_below, sum_of_differences}
 
 -- ---- signs of sums of products
 above_of : (k t a b c d : ℤ) → k *ℤ t ≡ a *ℤ b +ℤ c *ℤ d → pos 0 <ℤ a → pos 0 <ℤ b → pos 0 <ℤ c → pos 0 ≤ℤ d → pos 0 <ℤ (k *ℤ t)

@@ -1,28 +1,28 @@
--- A polygon and the two halves of its plane at a line: its edges that run along the line, less those that run the opposite way, are what it covers
--- on the left less what it covers on the right.
+-- A polygon and the two halves of its plane at a line: its edges that run along the line, less those that run the opposite way,
+-- are what it covers on the left less what it covers on the right.
 use Rattle.std.proofs.Common.{◌≡◌, ◌≢◌, ◌⊎◌, inl, inr, ℕ, zero, suc, ◌<◌, Bool, true, false, ◌&&◌, List, [], ◌∷◌, length, get_or, refl, sym, ap₂, ◌∙◌, subst, arith, ℤ, pos, ◌-ℤ◌, neg_ℤ, ◌<ℤ◌, int_lt}
 use Rattle.std.specs.List.{list_all}
 use Rattle.std.specs.Ordering.{int_eq}
 use Rattle.std.proofs.lemmas.Bool.{and_parts, and_from}
 use Rattle.std.proofs.lemmas.Bool.Decides.{Decides-int_eq}
 use Rattle.plane_predicate.specs.Space.{Coefficients, Coordinates, value, opposite_of}
-use Rattle.plane_predicate.proofs.IntegerRing.{sums}
-use Rattle.plane_predicate.proofs.Signs.{signs}
+use Rattle.plane_predicate.proofs.lemmas.IntegerRing.{sums}
+use Rattle.plane_predicate.proofs.lemmas.Signs.{signs}
 use Rattle.plane_polygon.specs.Polygons.{Outline, edge_plane, edge_count, corner, missing_plane, IsPolygon, IsStrictlyWithin}
 use Rattle.plane_polygon.specs.Parts.{corners}
-use Rattle.plane_polygon.proofs.Hull.{after_below}
-use Rattle.plane_polygon.proofs.Faces.{earlier, after_injective}
+use Rattle.plane_polygon.proofs.lemmas.Hull.{after_below}
+use Rattle.plane_polygon.proofs.lemmas.Faces.{earlier, after_injective}
 use Rattle.closed_surface.specs.Ways.{Direction, displacement, dot_product, is_same_direction, is_opposite_direction}
 use Rattle.closed_surface.specs.Around.{triple_product_of}
 use Rattle.closed_surface.specs.Closed.{edges_of, runs_through, count_of_edges_along, count_of_edges_against}
 use Rattle.closed_surface.proofs.Turns.{turn_exchanged, turn_itself, turn_opposite}
-use Rattle.closed_surface.proofs.Numbers.{below, below_back, false_by, not_zero_below, not_zero_above, not_both, negative_zero, negative_below, negative_above}
-use Rattle.closed_surface.proofs.EdgeLines.{none_held_first, none_held_second, turn_apart}
+use Rattle.closed_surface.proofs.lemmas.Numbers.{below, below_back, false_by, not_zero_below, not_zero_above, not_both, negative_zero, negative_below, negative_above}
+use Rattle.closed_surface.proofs.lemmas.EdgeLines.{none_held_first, none_held_second, turn_apart}
 use Rattle.closed_surface.specs.Edges.{edge_of_outline, IsOnEdge, HoldDirection}
 use Rattle.closed_surface.specs.Near.{near_point, direction_beside, BoundsSlopes, IsClear, is_strictly_within, indicator}
 use Rattle.closed_surface.proofs.Edges.{side, on_line_strictly, runs_along, along_runs, runs_against, against_runs, same_or_not}
-use Rattle.closed_surface.proofs.Counting.{count_to, count_edges, count_none, count_one}
-use Rattle.closed_surface.proofs.Near.{near_on, near_behind, near_ahead, zero_near, slope_beside}
+use Rattle.closed_surface.proofs.lemmas.Counting.{count_to, count_edges, count_none, count_one}
+use Rattle.closed_surface.proofs.lemmas.Near.{near_on, near_behind, near_ahead, zero_near, slope_beside}
 use Rattle.plane_predicate.specs.Indices.{index_after}
 
 -- ---- what the test of a covered point says

@@ -4,11 +4,11 @@ use Rattle.std.proofs.lemmas.Bool.{and_parts, and_from}
 use Rattle.std.proofs.lemmas.Bool.Decides.{eqb_tells}
 use Rattle.plane_predicate.specs.Space.{Coordinates, value}
 use Rattle.plane_polygon.specs.Polygons.{Outline, edge_plane, edge_count, corner, IsPolygon}
-use Rattle.plane_polygon.proofs.Hull.{after_below, after_other, after_twice, corner_on, corner_on_edge, corner_on_next, far_behind}
+use Rattle.plane_polygon.proofs.lemmas.Hull.{after_below, after_other, after_twice, corner_on, corner_on_edge, corner_on_next, far_behind}
 use Rattle.closed_surface.specs.Ways.{Direction, displacement, is_same_direction, is_opposite_direction}
 use Rattle.closed_surface.specs.Closed.{runs_through}
-use Rattle.closed_surface.proofs.EdgeLines.{IsSide, runs, runs_zero, runs_behind, same_way_turns, opposite_way_turns, turns_same_way, turns_opposite_way}
-use Rattle.closed_surface.proofs.Numbers.{at_most, zero_at_most}
+use Rattle.closed_surface.proofs.lemmas.EdgeLines.{IsSide, runs, runs_zero, runs_behind, same_way_turns, opposite_way_turns, turns_same_way, turns_opposite_way}
+use Rattle.closed_surface.proofs.lemmas.Numbers.{at_most, zero_at_most}
 use Rattle.closed_surface.specs.Edges.{edge_of_outline, IsOnEdge, RunsAlong, RunsAgainst}
 use Rattle.plane_predicate.specs.Indices.{index_after}
 

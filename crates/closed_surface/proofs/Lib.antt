@@ -1,19 +1,10 @@
 mod Rows
-pub mod Numbers
-pub mod Each
+pub mod lemmas
 pub mod Turns
 pub mod Sectors
-pub mod Parallels
-pub mod EdgeLines
 pub mod Multiples
-pub mod Printing
 pub mod Edges
-pub mod Counting
-pub mod Near
 pub mod Slides
 pub mod Covers
-pub mod Lines
 pub mod Walks
 pub mod Shares
-pub mod Balanced
-pub mod Closing

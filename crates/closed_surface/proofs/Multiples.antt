@@ -7,13 +7,13 @@ use Rattle.plane_predicate.specs.declared.unit.Unit.{Unit as LengthUnit}
 use Rattle.plane_predicate.specs.Space.{Coordinates, IsPointTimes}
 use Rattle.plane_predicate.specs.InUnits.{in_units, in_steps}
 use Rattle.plane_predicate.specs.Units.{grid_steps_per_unit}
-use Rattle.plane_predicate.proofs.IntegerRing.{sums}
-use Rattle.plane_predicate.proofs.InUnits.{steps_above}
-use Rattle.plane_predicate.proofs.Polynomials.{var, plus, times, minus, ring}
-use Rattle.plane_predicate.proofs.Signs.{pos_pos, pos_neg, pos_cancel, neg_cancel, zero_cancel}
+use Rattle.plane_predicate.proofs.lemmas.IntegerRing.{sums}
+use Rattle.plane_predicate.proofs.lemmas.InUnits.{steps_above}
+use Rattle.plane_predicate.proofs.lemmas.Polynomials.{var, plus, times, minus, ring}
+use Rattle.plane_predicate.proofs.lemmas.Signs.{pos_pos, pos_neg, pos_cancel, neg_cancel, zero_cancel}
 use Rattle.closed_surface.specs.Ways.{Direction, displacement, is_same_point_of_space, is_parallel, is_same_direction, is_opposite_direction}
 use Rattle.closed_surface.specs.Closed.{runs_through}
-use Rattle.closed_surface.proofs.Numbers.{below, below_back, same_tests}
+use Rattle.closed_surface.proofs.lemmas.Numbers.{below, below_back, same_tests}
 
 -- ---- tests of a number that is taken several times
 zero_times : (k x y : ℤ) → pos 0 <ℤ k → x ≡ k *ℤ y → int_eq x (pos 0) ≡ int_eq y (pos 0)

@@ -3,7 +3,7 @@ use Rattle.std.proofs.Common.{◌≡◌, ℕ, true, false, List, [], ◌∷◌, 
 use Rattle.std.proofs.lemmas.Bool.Decides.{Decides-eqb}
 use Rattle.plane_predicate.specs.declared.unit.Unit.TheVariants.{Whole, Half}
 use Rattle.plane_predicate.specs.Space.{Coordinates, IsInWorld}
-use Rattle.plane_predicate.proofs.IntegerRing.{sums}
+use Rattle.plane_predicate.proofs.lemmas.IntegerRing.{sums}
 use Rattle.closed_surface.specs.Ways.{Direction}
 use Rattle.closed_surface.specs.Closed.{Edge, edges_of, corners_at, count_of_edges_along, count_of_edges_against, is_corner, IsClosedSurface}
 
@@ -63,8 +63,8 @@ box_on_the_line_past_the_edge = (refl, refl)
 box_across_the_edge : Run box (low ∷ front ∷ others) (whole (pos 1) (pos 0) (pos 0)) to_z 0 0
 box_across_the_edge = (refl, refl)
 
--- ---- a step: x from 0 to 2 up to 1, and x from 2 to 4 up to 2; y from 0 to 2. The corner (2, 0, 1) lies in the middle of an edge
--- of the face in front on the right, and (2, 0, 0) in the middle of one of the face below
+-- ---- a step: x from 0 to 2 up to 1, and x from 2 to 4 up to 2; y from 0 to 2. The corner (2, 0, 1) lies in the middle of an
+-- edge of the face in front on the right, and (2, 0, 0) in the middle of one of the face below
 abbrev step : List Coordinates
 step =
     whole (pos 0) (pos 0) (pos 0) ∷ whole (pos 2) (pos 0) (pos 0) ∷ whole (pos 4) (pos 0) (pos 0)

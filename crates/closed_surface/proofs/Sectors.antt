@@ -4,12 +4,12 @@ use Rattle.std.specs.Ordering.{int_eq}
 use Rattle.std.proofs.lemmas.Bool.{and_parts}
 use Rattle.std.proofs.lemmas.Bool.Decides.{Decides-int_eq}
 use Rattle.plane_predicate.specs.Space.{Coefficients, opposite_of, is_same}
-use Rattle.plane_predicate.proofs.IntegerRing.{sums, mul_comm_ℤ}
-use Rattle.plane_predicate.proofs.Signs.{signs, pos_pos, pos_neg, neg_pos, least_least, least_most, pos_cancel}
+use Rattle.plane_predicate.proofs.lemmas.IntegerRing.{sums, mul_comm_ℤ}
+use Rattle.plane_predicate.proofs.lemmas.Signs.{signs, pos_pos, pos_neg, neg_pos, least_least, least_most, pos_cancel}
 use Rattle.closed_surface.specs.Ways.{Direction}
 use Rattle.closed_surface.specs.Around.{triple_product_of, IsParallelToNone, HaveNoParallels, sides_at, fall_at, fall}
-use Rattle.closed_surface.proofs.Each.{Each, total_same, total_sum}
-use Rattle.closed_surface.proofs.Numbers.{below, not_below, below_back, false_by, at_most, at_least, zero_at_most, zero_at_least, negative_above, negative_below, negative_apart, negative_zero}
+use Rattle.closed_surface.proofs.lemmas.Each.{Each, total_same, total_sum}
+use Rattle.closed_surface.proofs.lemmas.Numbers.{below, not_below, below_back, false_by, at_most, at_least, zero_at_most, zero_at_least, negative_above, negative_below, negative_apart, negative_zero}
 use Rattle.closed_surface.proofs.Turns.{turn_exchanged, turn_itself, four_turns, turn_opposite, opposite_turn}
 use Rattle.plane_predicate.specs.Sums.{sum_over}
 
@@ -33,8 +33,8 @@ never : (a b : Bool) → b ≡ false → (a && b) ≡ false
 never true b h = h
 never false b h = refl
 
--- ---- where a ray lies in the two parts of a sector. x and y are the turns from the first bound and to the second, u and v those of
--- the ray that parts it, t that of the bounds, and z that from the ray to the parting one
+-- ---- where a ray lies in the two parts of a sector. x and y are the turns from the first bound and to the second, u and v
+-- those of the ray that parts it, t that of the bounds, and z that from the ray to the parting one
 before : (x y u v t z : ℤ) → pos 0 <ℤ u → pos 0 <ℤ v → pos 0 ≤ℤ t → x *ℤ v -ℤ u *ℤ y +ℤ t *ℤ z ≡ pos 0 → pos 0 <ℤ z → pos 0 <ℤ x → pos 0 <ℤ y
 before x y u v t z hu hv ht e hz hx = pos_cancel u y hu (omega (arith, sums, pos_pos x v hx hv, least_least t z ht (at_least z hz)))
 

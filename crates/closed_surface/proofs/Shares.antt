@@ -2,19 +2,19 @@
 use Rattle.std.proofs.Common.{◌≡◌, ◌≢◌, inl, inr, Bool, true, false, not, ◌&&◌, List, [], ◌∷◌, refl, sym, ap, ap₂, ◌∙◌, subst, arith, ℤ, pos, ◌+ℤ◌, ◌-ℤ◌}
 use Rattle.std.proofs.lemmas.Bool.{and_parts, and_from}
 use Rattle.plane_predicate.specs.Space.{Coefficients, Coordinates, opposite_of, is_same}
-use Rattle.plane_predicate.proofs.IntegerRing.{sums}
+use Rattle.plane_predicate.proofs.lemmas.IntegerRing.{sums}
 use Rattle.plane_polygon.specs.Polygons.{Outline}
-use Rattle.bsp_tree.proofs.Opposites.{opposite_twice}
+use Rattle.bsp_tree.proofs.lemmas.Opposites.{opposite_twice}
 use Rattle.facet_cut.specs.Sides.{CoversFacing, HasNone, HasOne, HasOneWhere}
 use Rattle.closed_surface.specs.Ways.{Direction}
 use Rattle.closed_surface.specs.Around.{triple_product_of, IsParallelToNone, HaveNoParallels}
 use Rattle.closed_surface.proofs.Turns.{turn_exchanged, turn_itself, opposite_turn}
 use Rattle.closed_surface.proofs.Sectors.{same_plane, same_itself}
-use Rattle.closed_surface.proofs.Numbers.{false_by, negative_zero}
+use Rattle.closed_surface.proofs.lemmas.Numbers.{false_by, negative_zero}
 use Rattle.closed_surface.specs.Near.{is_strictly_within, indicator}
 use Rattle.closed_surface.proofs.Covers.{within_is, is_within_parts}
-use Rattle.closed_surface.proofs.Each.{Each}
-use Rattle.closed_surface.proofs.Lines.{IsEither, AmongEither}
+use Rattle.closed_surface.proofs.lemmas.Each.{Each}
+use Rattle.closed_surface.proofs.lemmas.Lines.{IsEither, AmongEither}
 use Rattle.plane_predicate.specs.Sums.{sum_over}
 
 -- 1 where the facet faces n and covers the point, else 0

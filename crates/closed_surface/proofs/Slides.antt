@@ -3,16 +3,16 @@ use Rattle.std.proofs.Common.{◌≡◌, ◌⊎◌, inl, inr, ℕ, ◌<◌, fals
 use Rattle.plane_predicate.specs.Space.{Coordinates, value}
 use Rattle.plane_polygon.specs.Polygons.{Outline, edge_plane, edge_count, corner, IsPolygon}
 use Rattle.plane_polygon.specs.Parts.{corners}
-use Rattle.plane_polygon.proofs.Hull.{after_below, after_other}
+use Rattle.plane_polygon.proofs.lemmas.Hull.{after_below, after_other}
 use Rattle.closed_surface.specs.Ways.{Direction, displacement, is_same_point_of_space, is_same_direction, is_opposite_direction}
 use Rattle.closed_surface.specs.Closed.{edges_of, runs_through, count_of_edges_along, count_of_edges_against}
-use Rattle.closed_surface.proofs.EdgeLines.{meets_at_first, meets_at_second}
-use Rattle.closed_surface.proofs.Numbers.{same_tests}
+use Rattle.closed_surface.proofs.lemmas.EdgeLines.{meets_at_first, meets_at_second}
+use Rattle.closed_surface.proofs.lemmas.Numbers.{same_tests}
 use Rattle.closed_surface.specs.Edges.{edge_of_outline, IsOnEdge, HoldDirection}
 use Rattle.closed_surface.specs.Near.{near_point, BoundsSlopes, IsNoCorner}
 use Rattle.closed_surface.proofs.Edges.{side, on_line_strictly, runs_along, along_runs, runs_against, against_runs}
-use Rattle.closed_surface.proofs.Counting.{count_edges, count_same}
-use Rattle.closed_surface.proofs.Near.{near_on, near_behind, near_weight, zero_near, behind_near}
+use Rattle.closed_surface.proofs.lemmas.Counting.{count_edges, count_same}
+use Rattle.closed_surface.proofs.lemmas.Near.{near_on, near_behind, near_weight, zero_near, behind_near}
 use Rattle.plane_predicate.specs.Indices.{index_after}
 
 -- ---- tests that are true together

@@ -1,9 +1,9 @@
 -- Turns about a line.
 use Rattle.std.proofs.Common.{◌≡◌, ℕ, ◌+◌, List, [], ◌∷◌, refl, ◌∙◌, arith, ℤ, pos, ◌+ℤ◌, ◌-ℤ◌, ◌*ℤ◌, neg_ℤ}
 use Rattle.plane_predicate.specs.Space.{Coefficients, opposite_of, minor}
-use Rattle.plane_predicate.proofs.IntegerRing.{sums, mul_neg_left}
-use Rattle.plane_predicate.proofs.Polynomials.{Poly, var, num, plus, times, minus, ring}
-use Rattle.plane_predicate.proofs.Vectors.{Form, form, of_plane, determinantP}
+use Rattle.plane_predicate.proofs.lemmas.IntegerRing.{sums, mul_neg_left}
+use Rattle.plane_predicate.proofs.lemmas.Polynomials.{Poly, var, num, plus, times, minus, ring}
+use Rattle.plane_predicate.proofs.lemmas.Vectors.{Form, form, of_plane, determinantP}
 use Rattle.closed_surface.specs.Ways.{Direction}
 use Rattle.closed_surface.specs.Around.{triple_product_of}
 

@@ -1,22 +1,22 @@
 -- The walk of a solid just beside a half plane at a line, from the sides of the planes through the line alone.
 use Rattle.std.proofs.Common.{◌≡◌, ◌≢◌, ◌⊎◌, inl, inr, ℕ, Bool, true, false, not, if◌then◌else◌, List, [], ◌∷◌, refl, sym, ap, ◌∙◌, true≢false, arith, ℤ, pos, neg_ℤ, int_lt}
 use Rattle.plane_predicate.specs.Space.{Coefficients, Coordinates, value, opposite_of, is_same}
-use Rattle.plane_predicate.proofs.IntegerRing.{sums}
-use Rattle.plane_predicate.proofs.Signs.{signs}
-use Rattle.plane_predicate.proofs.Vectors.{value-opposite}
+use Rattle.plane_predicate.proofs.lemmas.IntegerRing.{sums}
+use Rattle.plane_predicate.proofs.lemmas.Signs.{signs}
+use Rattle.plane_predicate.proofs.lemmas.Vectors.{value-opposite}
 use Rattle.plane_polygon.specs.Parts.{is_behind}
 use Rattle.bsp_tree.specs.Trees.{BspTree, inside, outside, node}
 use Rattle.bsp_tree.specs.Cells.{IsNodePlaneOf}
-use Rattle.bsp_tree.proofs.Opposites.{opposite_twice}
+use Rattle.bsp_tree.proofs.lemmas.Opposites.{opposite_twice}
 use Rattle.facet_cut.specs.Sides.{walk_by, AreJustBehind, AreJustAhead}
 use Rattle.closed_surface.specs.Ways.{Direction}
 use Rattle.closed_surface.specs.Around.{triple_product_of, sides_at}
 use Rattle.closed_surface.proofs.Sectors.{same_plane, same_itself}
-use Rattle.closed_surface.proofs.Numbers.{below, not_below, false_by}
+use Rattle.closed_surface.proofs.lemmas.Numbers.{below, not_below, false_by}
 use Rattle.closed_surface.specs.Near.{near_point, direction_beside}
-use Rattle.closed_surface.proofs.Near.{near_on, slope_beside}
-use Rattle.closed_surface.proofs.Each.{Each}
-use Rattle.closed_surface.proofs.Lines.{AmongEither}
+use Rattle.closed_surface.proofs.lemmas.Near.{near_on, slope_beside}
+use Rattle.closed_surface.proofs.lemmas.Each.{Each}
+use Rattle.closed_surface.proofs.lemmas.Lines.{AmongEither}
 
 -- ---- a walk needs the sides of the solid's planes alone
 either_alike : (x y : Bool) (a b c d : Bool) → x ≡ y → a ≡ c → b ≡ d → (if x then a else b) ≡ (if y then c else d)

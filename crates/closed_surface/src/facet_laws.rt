@@ -72,7 +72,7 @@ pub fn edges_bound_what_is_covered()
 pub fn facets_are_closed()
     ensures { (t : BspTree) → IsOfWorld t → AreClosed Whole (map corners (facets_of t)) }
 {
-    // Each call brings a law alone.
+    // Each call is for its law, and does nothing when it runs.
     facets_are_polygons();
     facets_bound_their_solid();
 }

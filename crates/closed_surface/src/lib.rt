@@ -1,4 +1,4 @@
-//! Closed surfaces: what it means that faces leave no hole along their edges, and why the facets of a solid leave none.
+//! Closed surfaces: what it means for faces to leave no hole along their edges, and why the facets of a solid leave none.
 #![tactic(auto)]
 
 mod facet_laws;

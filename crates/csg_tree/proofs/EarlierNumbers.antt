@@ -14,7 +14,7 @@ use Rattle.csg_tree.specs.Numberings.{tree_numbered, AreNumberedTrees, HasNumber
 use Rattle.csg_tree.specs.Nodes.{node_of, tree_of_node, trees_of_nodes, AreOverEarlier, IsNodeOf, IsOver}
 use Rattle.csg_tree.specs.Interned.{key_cmp, node_of_key, is_same_node}
 use Rattle.csg_tree.specs.Earlier.{AreFoundByKey, AreNumbersIn, IsNumberOf, IsNodeAmong}
-use Rattle.csg_tree.proofs.Sameness.{node_true, node_itself, keys_tell}
+use Rattle.csg_tree.proofs.lemmas.Sameness.{node_true, node_itself, keys_tell}
 use Rattle.csg_tree.proofs.Linked.{length_trees}
 use Rattle.csg_tree.proofs.Interning.{one_node, tree_of_number}
 

@@ -10,7 +10,7 @@ use Rattle.csg_tree.specs.HalfSpaceTrees.{Tree, nothing, tree_join}
 use Rattle.csg_tree.specs.Numberings.{tree_numbered, IsNumberIn, HaveOneNumber, HasNumber}
 use Rattle.csg_tree.specs.Nodes.{tree_of_node, IsOver, trees_after, trees_of_nodes, AreOverEarlierAfter, AreOverEarlier}
 use Rattle.csg_tree.specs.Interned.{key_cmp, node_of_key, is_same_node, number_from, number_in, AreInterned, TreesStay}
-use Rattle.csg_tree.proofs.Sameness.{node_true, node_itself, keys_tell}
+use Rattle.csg_tree.proofs.lemmas.Sameness.{node_true, node_itself, keys_tell}
 use Rattle.csg_tree.proofs.Linked.{behind_more, linked_more, length_trees, numbered_more}
 
 -- a node that is found

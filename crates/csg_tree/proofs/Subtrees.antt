@@ -81,7 +81,7 @@ nodes_by_levels levels f known =
     ap distinct_trees (by_height_same (length levels) (suc (height f)) (occurrences f) (levels_enough levels (occurrences f) known)
     (λ i within. let low = all_low f i nothing within in omega (arith, low)))
 
--- what is told of a node
+-- what the contract says about a node
 pub node_told : (nodes : List StoredNode) (number : ℕ) (node : CsgNode) → AreOverEarlier nodes → IsNumberIn nodes number →
     node_of node ≡ get_or nodes (number - 1) (node_of node) → IsNodeOf (trees_of_nodes nodes) number node
 node_told nodes number (told.Leaf planes) linked within e =

@@ -8,7 +8,7 @@ use Rattle.csg_tree.specs.Numberings.{tree_numbered, AreNumberedTrees, HasNumber
 use Rattle.csg_tree.specs.Nodes.{node_of, tree_of_node, IsOver}
 use Rattle.csg_tree.specs.Interned.{key_cmp, node_of_key}
 
--- the first so many of some trees are found by the keys of their nodes
+-- the first n of some trees are found by the keys of their nodes
 pub record AreFoundByKey (trees : List Tree) (count : ℕ) (found : BTreeMap NodeKey ℕ) : Type 0 where
   pub numbered : AreNumberedTrees trees
   pub has : (key : NodeKey) (n : ℕ) → get key_cmp found key ≡ Some n → HasNumber trees (tree_of_node trees (node_of_key key)) n

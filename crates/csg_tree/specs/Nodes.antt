@@ -49,7 +49,7 @@ trees_of_lent_nodes nodes = trees_of_nodes (map node_of nodes)
 abbrev pub AreLentOverEarlier : List CsgNode → Type 0
 AreLentOverEarlier nodes = AreOverEarlier (map node_of nodes)
 
--- what is told of the node of a number: its planes, or its operation and the smaller numbers of its two trees
+-- what the node of a number has: its planes, or its operation and the smaller numbers of its two trees
 abbrev pub IsNodeOf : List Tree → ℕ → CsgNode → Type 0
 IsNodeOf trees number (told.Leaf planes) = tree_numbered trees number ≡ leaf planes.now
 IsNodeOf trees number (told.Join op left right) = (1 ≤ left) × (left < number) × (1 ≤ right) × (right < number)

@@ -9,9 +9,9 @@ ghost use Rattle.csg_tree.specs.Earlier.{AreFoundByKey, IsNumberOf, IsNodeAmong,
 use crate::interner::{NodeKey, key_of_node, look_up, put};
 use crate::node::CsgNode;
 use crate::store::CsgStore;
+use plain_text::NoMemory;
 use std::alloc::Global;
 use std::collections::BTreeMap;
-use text_place::NoMemory;
 
 impl CsgStore {
     /// The numbers that the trees of the nodes have in an earlier store, in order of number, where they are

@@ -8,8 +8,8 @@ ghost use Rattle.csg_tree.specs.Keys.{tree_bytes, op_byte};
 ghost use Rattle.csg_tree.specs.Numberings.{tree_numbered, IsNumberIn};
 
 use crate::{CsgNode, CsgStore, Op, byte_of, feed_tree};
+use plain_text::NoMemory;
 use sha2::{Digest, Sha256};
-use text_place::NoMemory;
 
 /// A hash that was fed with the front of a join: its operation and its first tree, and in a difference whose second tree
 /// is a join that one's operation and first tree too.

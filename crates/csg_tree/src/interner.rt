@@ -9,10 +9,10 @@ ghost use Rattle.csg_tree.specs.Interned.{key_cmp, node_of_key, plane_of_numbers
 
 use crate::node::{CsgNode, StoredNode};
 use crate::op::Op;
+use plain_text::NoMemory;
 use plane_predicate::Plane;
 use std::alloc::Global;
 use std::collections::BTreeMap;
-use text_place::NoMemory;
 
 /// The four numbers of a plane, in an order.
 #[derive(Clone, Copy, PartialEq, Eq, PartialOrd, Ord)]

@@ -8,9 +8,9 @@ ghost use Rattle.csg_tree.specs.Joins.{balanced_of, join_of};
 
 use crate::op::Op;
 use crate::tree::CsgTree;
+use plain_text::NoMemory;
 use std::alloc::Global;
 use std::vec::IntoIter;
-use text_place::NoMemory;
 
 /// The join of two trees, without Nothing: in a union Nothing gives the other tree, in an
 /// intersection Nothing, Nothing minus anything is Nothing, and a tree minus Nothing is the tree.

@@ -7,9 +7,9 @@ ghost use Rattle.csg_tree.specs.Keys.{tree_bytes, number_bytes, op_byte, plane_b
 
 use crate::op::Op;
 use crate::tree::CsgTree;
+use plain_text::NoMemory;
 use plane_predicate::Plane;
 use std::alloc::Global;
-use text_place::NoMemory;
 
 impl CsgTree {
     /// The bytes of the tree: 0 for Nothing; 1, the number of planes and the four numbers of each for

@@ -5,8 +5,8 @@ ghost use Rattle.csg_tree.specs.Nodes.{node_of, trees_of_lent_nodes, AreLentOver
 ghost use Rattle.csg_tree.specs.Levels.{height_over, level_at, numbers_of_height};
 
 use crate::node::CsgNode;
+use plain_text::NoMemory;
 use std::alloc::Global;
-use text_place::NoMemory;
 
 /// The numbers of the parts of each height, the lowest height first, in ascending order.
 pub fn levels_of(alloc: Global, parts: &[CsgNode<'_>]) -> Result<Vec<Vec<u32>>, NoMemory>

@@ -1,5 +1,5 @@
-//! Trees of constructive solid geometry over half spaces: what they mean, how they are joined, and their distinct subtrees as
-//! nodes by number, with the names of these.
+//! Trees of constructive solid geometry over half spaces: their meaning, how they are joined, and their distinct subtrees as
+//! numbered nodes with names.
 #![tactic(auto)]
 
 mod earlier;

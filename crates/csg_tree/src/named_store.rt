@@ -15,12 +15,12 @@ use crate::front_hash::{hash_of_front, second_join};
 use crate::row_names::{RowNames, name_made};
 use crate::workers::names_of_store;
 use crate::{CsgNode, CsgStore, Op, TreeKey};
+use plain_text::NoMemory;
 use sha2::Sha256;
 use std::alloc::Global;
 use std::marker::Model;
 use std::sync::Arc;
 use std::thread::Threads;
-use text_place::NoMemory;
 
 /// A shared store with the SHA-256 of the bytes of each of its joins, which contracts see as the store is
 /// seen. It also keeps each hash as it was behind the join's front: where a later store has another join with the same
@@ -54,7 +54,8 @@ impl Model for NamedStore {
 }
 
 impl NamedStore {
-    /// A store with the names of its joins, which at most so many workers make at the same time where threads can be made.
+    /// A store with the names of its joins, which at most the given number of workers make at the same time where threads can
+    /// be made.
     pub fn new<R: Threads + Sync>(
         rt: &R,
         alloc: Global,

@@ -49,7 +49,7 @@ fn feed_leaf<D: Digest>(planes: &[Plane], hasher: &mut D)
     feed_planes(planes, hasher);
 }
 
-// The bytes of a leaf in front of its planes, which are so many.
+// The bytes of a leaf in front of its planes, whose number is given.
 fn leaf_head(count: u64) -> [u8; 9]
     ensures { result ≡ 1 ∷ to_be_bytes w64 count }
 {

@@ -5,9 +5,9 @@ ghost use Rattle.csg_tree.specs.Nodes.{node_of};
 
 use crate::op::Op;
 use crate::planes::Planes;
+use plain_text::NoMemory;
 use plane_predicate::Plane;
 use std::alloc::Global;
-use text_place::NoMemory;
 
 /// A node of trees that are linked by number: the planes of a leaf, or an operation and the numbers
 /// of its two trees.

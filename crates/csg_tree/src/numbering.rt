@@ -8,8 +8,8 @@ ghost use Rattle.csg_tree.specs.Interned.{renumbered_node, AreInterned, ArePlace
 
 use crate::interner::Interner;
 use crate::node::{CsgNode, StoredNode};
+use plain_text::NoMemory;
 use std::alloc::Global;
-use text_place::NoMemory;
 
 /// The distinct trees of parts as nodes, the lower ones first and those of one height in order of
 /// appearance. The levels have the numbers of the parts by height.

@@ -8,8 +8,8 @@ ghost use Rattle.csg_tree.specs.Nodes.{node_of, tree_of_node, trees_of_lent_node
 
 use crate::node::CsgNode;
 use crate::tree::CsgTree;
+use plain_text::NoMemory;
 use std::alloc::Global;
-use text_place::NoMemory;
 
 /// A node for each occurrence of a subtree other than Nothing, from left to right, a join behind its
 /// two trees. Nodes are numbered from 1.

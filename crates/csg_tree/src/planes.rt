@@ -1,3 +1,5 @@
+//! The list type of a tree's planes.
+
 ghost use Rattle.std.specs.Prelude.{◌≡◌};
 
 use plane_predicate::Plane;

@@ -8,9 +8,9 @@ ghost use Rattle.csg_tree.specs.Rows.{trees_in, AreNamesOf, IsRowOf};
 
 use crate::front_hash::{hash_of_front, name_from_front};
 use crate::{CsgNode, CsgStore, name_of_node};
+use plain_text::NoMemory;
 use sha2::Sha256;
 use std::alloc::Global;
-use text_place::NoMemory;
 
 /// The nodes above one number, up to another one.
 #[derive(Clone, Copy)]

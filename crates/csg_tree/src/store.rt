@@ -11,9 +11,9 @@ use crate::node::{CsgNode, StoredNode};
 use crate::numbering::nodes_of_levels;
 use crate::parts::parts_of;
 use crate::tree::CsgTree;
+use plain_text::NoMemory;
 use std::alloc::Global;
 use std::marker::Model;
-use text_place::NoMemory;
 
 /// The distinct subtrees of a tree as nodes that are linked by number, which contracts see as the
 /// list of these subtrees in order of number. They are proper trees.

@@ -5,8 +5,8 @@ ghost use Rattle.csg_tree.specs.Trees.{plain_tree_of};
 
 use crate::op::Op;
 use crate::planes::Planes;
+use plain_text::NoMemory;
 use std::alloc::Global;
-use text_place::NoMemory;
 
 /// A tree of constructive solid geometry: nothing, the points behind all planes of a leaf, or an
 /// operation on two trees.

@@ -8,9 +8,9 @@ ghost use Rattle.csg_tree.specs.TreeKeys.{name_of, IsNamedTree};
 use crate::naming::name_of_node;
 use crate::node::CsgNode;
 use crate::store::CsgStore;
+use plain_text::NoMemory;
 use std::marker::Model;
 use std::sync::Arc;
-use text_place::NoMemory;
 
 /// A tree as a key: a shared store with the number of a node, which contracts see as the node's
 /// tree. A key keeps the SHA-256 of the tree's bytes.

@@ -9,15 +9,15 @@ ghost use Rattle.csg_tree.specs.Rows.{trees_in, AreNamesOf, AreParts, IsRowOf};
 
 use crate::row_names::{Row, RowNames, names_in_turn};
 use crate::{CsgNode, CsgStore};
+use plain_text::NoMemory;
 use std::alloc::Global;
 use std::thread::{Threads, join};
-use text_place::NoMemory;
 
 // The fewest nodes that are named by more than one worker: to start and join four threads takes some 0.1 ms, and to name
 // fewer nodes hardly more.
 const FEWEST_NODES: u32 = 64;
 
-/// The names of a store, by at most so many workers.
+/// The names of a store, by at most the given number of workers.
 pub fn names_of_store<R: Threads + Sync>(
     rt: &R,
     alloc: Global,
@@ -60,7 +60,7 @@ fn costs_of(alloc: Global, store: &CsgStore) -> Result<Vec<u64>, NoMemory>
     Ok(costs)
 }
 
-// The names of a row, by at most so many workers.
+// The names of a row, by at most the given number of workers.
 #[cycle(halves)]
 fn names_by<R: Threads + Sync>(
     rt: &R,

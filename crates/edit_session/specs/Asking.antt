@@ -19,7 +19,7 @@ abbrev pub MayWantMemory : State → Command → Type 0
 MayWantMemory s (Cut from upto) = ⊥
 MayWantMemory s c = refusal s c ≡ None
 
--- a command was refused, for the reason of the table, or where memory may run out for want of it, and nothing changed
+-- a command was refused, for the reason of the table, or because memory ran out, where it may, and nothing changed
 pub record RefusesCommand (old : State) (c : Command) (new : State) (why : SessionFault) : Type 0 where
   pub reason : ((refusal old c ≡ Some why) × (why ≢ NoMemory)) ⊎ ((why ≡ NoMemory) × MayWantMemory old c)
   pub same : new ≡ old

@@ -2,7 +2,7 @@
 use Rattle.std.specs.Prelude.{ℕ, ◌+◌, ◌-◌, ◌==◌, nat_le, Bool, ◌&&◌, if◌then◌else◌, List, [], ◌++◌, flat_map, length, take, drop, insert, slice_set, is_some, Option, Some, None}
 use Rattle.script_reader.specs.declared.script.Command.{Command}
 use Rattle.script_reader.specs.declared.script.Command.TheVariants.{Put, Set, Cut, Show, Export, Bad}
-use Rattle.text_place.specs.Separators.{newline}
+use Rattle.plain_text.specs.Separators.{newline}
 use Rattle.edit_session.specs.declared.fault.SessionFault.{SessionFault}
 use Rattle.edit_session.specs.declared.fault.SessionFault.TheVariants.{NoSuchLine, TooManyLines, TooManyShows, TooManyExports, BadCommand}
 

@@ -1,7 +1,9 @@
+//! Why a session refuses a command, and what a command that is accepted asks for.
+
 ghost use Rattle.std.specs.Prelude.{◌≡◌};
 
+use plain_text::NoMemory;
 use std::alloc::{AllocError, AllocFailed};
-use text_place::NoMemory;
 
 /// Why a session refuses a command.
 #[derive(Clone, Copy, PartialEq, Eq)]

@@ -8,10 +8,10 @@ ghost use Rattle.edit_session.specs.Limits.{IsWithinSessionLimits};
 ghost use Rattle.edit_session.specs.Asking.{Edits, RefusesCommand, Accepts};
 
 use crate::fault::{Asked, SessionFault};
+use plain_text::{Bytes, NoMemory};
 use script_reader::Command;
 use std::alloc::Global;
 use std::marker::Model;
-use text_place::{Bytes, NoMemory};
 
 // The most lines of a source.
 const LINES: usize = 4096;

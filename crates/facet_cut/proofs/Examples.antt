@@ -5,7 +5,7 @@ use Rattle.plane_polygon.specs.Polygons.{Outline}
 use Rattle.plane_polygon.specs.Boxes.{box_outline, trimmed_outline}
 use Rattle.plane_polygon.specs.Parts.{is_behind}
 use Rattle.bsp_tree.specs.Trees.{BspTree, inside, outside, node, size}
-use Rattle.bsp_tree.proofs.SameNumbers.{same_equal, not_same}
+use Rattle.bsp_tree.proofs.lemmas.SameNumbers.{same_equal, not_same}
 use Rattle.facet_cut.specs.Facets.{facets_of}
 use Rattle.facet_cut.specs.Sides.{walk_by, AreJustBehind, AreJustAhead}
 

@@ -2,8 +2,7 @@ pub mod Examples
 pub mod Reversals
 pub mod Counts
 pub mod Pieces
-pub mod FacetPolygons
-pub mod Boundaries
+pub mod lemmas
 pub mod Nodes
 pub mod WholeLists
 pub mod RowFacets

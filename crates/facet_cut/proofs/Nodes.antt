@@ -19,8 +19,8 @@ use Rattle.plane_table.specs.Faces.{outline_of, AreSidesWhereAcross}
 use Rattle.bsp_tree.specs.Links.{same_leaf}
 use Rattle.bsp_tree.specs.Trees.{BspTree}
 use Rattle.bsp_tree.specs.Shapes.{leaf_of, tree_at_link}
-use Rattle.bsp_tree.proofs.Sheets.{node_shown}
-use Rattle.bsp_tree.proofs.Wholes.{leaf_tree}
+use Rattle.bsp_tree.proofs.lemmas.Sheets.{node_shown}
+use Rattle.bsp_tree.proofs.lemmas.Wholes.{leaf_tree}
 use Rattle.facet_cut.specs.declared.stops.CutStop.{CutStop}
 use Rattle.facet_cut.specs.declared.stops.CutStop.TheVariants.{TooMany, NoMemory}
 use Rattle.facet_cut.specs.Facets.{Piece, facets_ahead, facets_facing, pieces_on_sides, pieces, facets_of}

@@ -5,23 +5,23 @@ use Rattle.std.proofs.lemmas.List.Elements.{All-nil, All-cons, All-head, All-tai
 use Rattle.std.proofs.lemmas.Grind.{flat_map-append}
 use Rattle.std.proofs.Math.IntN.{*ℤ-zero}
 use Rattle.plane_predicate.specs.Space.{Coefficients, Coordinates, value, opposite_of}
-use Rattle.plane_predicate.proofs.IntegerRing.{sums}
-use Rattle.plane_predicate.proofs.Identities.{combine, value_combine}
-use Rattle.plane_predicate.proofs.Signs.{signs, neg_neg, zero_cancel}
+use Rattle.plane_predicate.proofs.lemmas.IntegerRing.{sums}
+use Rattle.plane_predicate.proofs.lemmas.Identities.{combine, value_combine}
+use Rattle.plane_predicate.proofs.lemmas.Signs.{signs, neg_neg, zero_cancel}
 use Rattle.plane_polygon.specs.Polygons.{Outline, edge_count, edge_plane, corner, Covers, IsPolygon, IsStrictlyWithin}
 use Rattle.plane_polygon.specs.declared.classes.Class.{Class}
 use Rattle.plane_polygon.specs.declared.classes.Class.TheVariants.{Behind, Ahead, On, Across}
 use Rattle.plane_polygon.specs.Parts.{class_of, part_behind, part_ahead}
-use Rattle.plane_polygon.proofs.Hull.{hull, corner_on, after_below, after_other, after_twice}
-use Rattle.plane_polygon.proofs.Parts.{behind_polygon, ahead_polygon, behind_points, ahead_points}
+use Rattle.plane_polygon.proofs.lemmas.Hull.{hull, corner_on, after_below, after_other, after_twice}
+use Rattle.plane_polygon.proofs.lemmas.Parts.{behind_polygon, ahead_polygon, behind_points, ahead_points}
 use Rattle.bsp_tree.specs.Trees.{BspTree, inside, outside, node, walk}
 use Rattle.bsp_tree.specs.Cells.{IsInCell, IsPolygonOfCell, IsOffPlanesOf}
-use Rattle.bsp_tree.proofs.Convexity.{in_closed}
-use Rattle.bsp_tree.proofs.Openness.{often, in_near}
-use Rattle.bsp_tree.proofs.Opposites.{opposite_above, opposite_below}
-use Rattle.bsp_tree.proofs.Halves.{lying, low_half, high_half}
-use Rattle.bsp_tree.proofs.Sides.{LiesBehind, lies_behind, lies_ahead, lies_on, none_ahead}
-use Rattle.bsp_tree.proofs.Walks.{walk_behind, walk_ahead}
+use Rattle.bsp_tree.proofs.lemmas.Convexity.{in_closed}
+use Rattle.bsp_tree.proofs.lemmas.Openness.{often, in_near}
+use Rattle.bsp_tree.proofs.lemmas.Opposites.{opposite_above, opposite_below}
+use Rattle.bsp_tree.proofs.lemmas.Halves.{lying, low_half, high_half}
+use Rattle.bsp_tree.proofs.lemmas.Sides.{LiesBehind, lies_behind, lies_ahead, lies_on, none_ahead}
+use Rattle.bsp_tree.proofs.lemmas.Walks.{walk_behind, walk_ahead}
 use Rattle.facet_cut.specs.Facets.{Piece, pieces_on_sides, pieces}
 use Rattle.facet_cut.specs.Sides.{HasNone, HasOneWhere}
 use Rattle.facet_cut.proofs.Counts.{none_append, where_left, where_right}

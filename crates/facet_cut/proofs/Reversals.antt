@@ -2,12 +2,12 @@
 use Rattle.std.proofs.Common.{◌≡◌, ◌≢◌, inl, inr, ℕ, ◌-◌, ◌<◌, ◌≤◌, [], refl, sym, ap, ap₂, ◌∙◌, subst, subst₂, arith, pos, ◌-ℤ◌, ◌<ℤ◌, ◌≤ℤ◌}
 use Rattle.std.proofs.lemmas.List.{get_or-reverse, length-reverse}
 use Rattle.plane_predicate.specs.Space.{Coefficients, Coordinates, value, meeting_by_cramers_rule, opposite_of}
-use Rattle.plane_predicate.proofs.Polynomials.{num, minus, ring}
-use Rattle.plane_predicate.proofs.Vectors.{Form, form, of_plane, cramerP}
-use Rattle.plane_predicate.proofs.Opposites.{from_zero, same_plane, same_point}
+use Rattle.plane_predicate.proofs.lemmas.Polynomials.{num, minus, ring}
+use Rattle.plane_predicate.proofs.lemmas.Vectors.{Form, form, of_plane, cramerP}
+use Rattle.plane_predicate.proofs.lemmas.Opposites.{from_zero, same_plane, same_point}
 use Rattle.plane_polygon.specs.Polygons.{Outline, edge_plane, edge_count, corner, Covers, IsPolygon, IsStrictlyWithin, missing_plane}
-use Rattle.plane_polygon.proofs.Hull.{after_is, after_below}
-use Rattle.bsp_tree.proofs.Opposites.{opposite_zero, opposite_back}
+use Rattle.plane_polygon.proofs.lemmas.Hull.{after_is, after_below}
+use Rattle.bsp_tree.proofs.lemmas.Opposites.{opposite_zero, opposite_back}
 use Rattle.facet_cut.specs.Facets.{reversed_outline}
 use Rattle.plane_predicate.specs.Indices.{index_after}
 

@@ -17,7 +17,7 @@ use Rattle.link_forest.specs.Forests.{IsNode}
 use Rattle.plane_table.specs.declared.faces.Face.{Face}
 use Rattle.plane_table.specs.Faces.{outline_of}
 use Rattle.bsp_tree.specs.Shapes.{tree_at_link}
-use Rattle.bsp_tree.proofs.Sheets.{node_shown}
+use Rattle.bsp_tree.proofs.lemmas.Sheets.{node_shown}
 use Rattle.facet_cut.specs.declared.stops.CutStop.{CutStop}
 use Rattle.facet_cut.specs.declared.stops.CutStop.TheVariants.{TooMany, NoMemory}
 use Rattle.facet_cut.specs.Facets.{facets_between, facets_of}

@@ -7,8 +7,8 @@ use Rattle.bsp_tree.specs.Trees.{BspTree}
 use Rattle.bsp_tree.specs.Cells.{IsOfCell}
 use Rattle.facet_cut.specs.Facets.{facets_of}
 use Rattle.facet_cut.specs.Sides.{BoundSolid, IsFacetOf}
-use Rattle.facet_cut.proofs.FacetPolygons.{all_facets}
-use Rattle.facet_cut.proofs.Boundaries.{facets_bound}
+use Rattle.facet_cut.proofs.lemmas.FacetPolygons.{all_facets}
+use Rattle.facet_cut.proofs.lemmas.Boundaries.{facets_bound}
 
 module _ {Z E : Type 0} (t : BspTree) (result : Result (Vec Outline Z) E) (h : IfOk result (λ v. v.items ≡ facets_of t)) where
   pub list_polygons : IfOk result (λ v. (cell : List Coefficients) → IsOfCell cell t → All (IsFacetOf cell t) v.items)

@@ -26,7 +26,7 @@ facets_at planes nodes ids = flat_map (λ id. facets_on_top (tree_at_link planes
 abbrev pub AreNodes : List (Entry Face) → List NodeId → Type 0
 AreNodes nodes ids = All (λ id. id.index < length nodes) ids
 
--- all of these facets are given, and there are at most so many, or there are more
+-- all of these facets are returned, and there are at most the given number, or there are more
 abbrev pub AreFacetsWithin : {Z : Type 0} → List Outline → ℕ → Result (Vec Outline Z) CutStop → Type 0
 AreFacetsWithin facets most (Ok given) = (given.items ≡ facets) × (length given.items ≤ most)
 AreFacetsWithin facets most (Err TooMany) = most < length facets
@@ -36,7 +36,7 @@ AreFacetsWithin facets most (Err NoMemory) = Unit {0}
 abbrev pub AreFacetsOfRows : {Z : Type 0} → (ℕ → List Outline) → ℕ → List (Result (Vec Outline Z) CutStop) → Type 0
 AreFacetsOfRows {Z} row most rows = (n : ℕ) (d : Result (Vec Outline Z) CutStop) → n < length rows → AreFacetsWithin (row n) most (slice_index_or rows n d)
 
--- the facets of the first so many rows, one row after another
+-- the facets of the first n rows, one row after another
 abbrev pub first_rows : (ℕ → List Outline) → ℕ → List Outline
 first_rows row zero = []
 first_rows row (suc n) = first_rows row n ++ row n

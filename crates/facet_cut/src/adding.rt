@@ -1,4 +1,4 @@
-//! Facets added to a list of at most so many.
+//! Facets added to a list of at most a given number.
 
 ghost use Rattle.std.specs.Prelude.{◌≤◌, [], ◌∷◌, length};
 ghost use Rattle.facet_cut.specs.Facets.{facets_facing};

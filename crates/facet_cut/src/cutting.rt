@@ -10,10 +10,10 @@ ghost use Rattle.facet_cut.specs.Sides.{BoundSolid, IsFacetOf};
 use crate::walls::Walls;
 use crate::{CutStop, Facet};
 use bsp_tree::Solid;
+use plain_text::NoMemory;
 use plane_predicate::Plane;
 use plane_table::PlaneTable;
 use std::alloc::Global;
-use text_place::NoMemory;
 
 /// The facets of a solid, of which at most `most` are given. The solid is lent: each node's face is
 /// cut in numbers, and what is left of it as a facet becomes a polygon.

@@ -1,4 +1,4 @@
-//! The facets of solids: the parts of the nodes' polygons that have the solid on one side alone.
+//! The facets of a solid: the parts of its nodes' polygons that have the solid on exactly one side.
 #![tactic(auto)]
 
 mod adding;

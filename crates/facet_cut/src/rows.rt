@@ -12,8 +12,8 @@ ghost use Rattle.facet_cut.specs.Rows.{facets_at, facets_on_top, AreNodes, AreFa
 use crate::walls::Walls;
 use crate::{CutStop, Facet};
 use bsp_tree::{Link, NodeId};
+use plain_text::NoMemory;
 use std::alloc::Global;
-use text_place::NoMemory;
 
 impl<'a> Walls<'a> {
     /// Adds the nodes of the solid at a link, each before those behind its plane, and these before

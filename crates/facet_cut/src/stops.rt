@@ -1,6 +1,8 @@
+//! Why facets are not cut: too many, or out of memory.
+
 ghost use Rattle.std.specs.Prelude.{◌≡◌};
 
-use text_place::NoMemory;
+use plain_text::NoMemory;
 
 /// Why no facets are given.
 #[derive(Clone, Copy, Debug)]

@@ -16,10 +16,10 @@ use crate::cutting::{facet_list, table_of};
 use crate::walls::Walls;
 use crate::{CutStop, Facet};
 use bsp_tree::{Link, NodeId, Solid};
+use plain_text::NoMemory;
 use std::alloc::Global;
 use std::thread;
 use std::thread::Threads;
-use text_place::NoMemory;
 
 // The fewest nodes that are worth several workers: to start and join some threads takes about a tenth
 // of a millisecond, and the facets of a node one or two microseconds.
@@ -95,7 +95,7 @@ impl<'a> Walls<'a> {
         join_rows(alloc, rows, most)
     }
 
-    // The facets on the faces of rows of so many nodes each, a worker for each row.
+    // The facets on the faces of rows of the given number of nodes each, a worker for each row.
     fn rows_by<R: Threads + Sync>(
         &self,
         rt: &R,

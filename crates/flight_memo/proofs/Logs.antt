@@ -1,9 +1,11 @@
 -- A log with one event more.
-use Rattle.std.proofs.Common.{◌≡◌, ℕ, ◌+◌, ◌≤◌, Bool, true, false, not, cond, ◌&&◌, ◌||◌, List, [], ◌∷◌, ◌++◌, length, filter, nat_eq, refl, ap, sym, subst, ◌∙◌, arith, append_assoc, append-nil}
+use Rattle.std.proofs.Common.{◌≡◌, ℕ, suc, ◌+◌, ◌<◌, ◌≤◌, Bool, true, false, not, cond, if◌then◌else◌, ◌&&◌, ◌||◌, List, [], ◌∷◌, ◌++◌, length, filter, nat_eq, get_or, refl, ap, sym, subst, ◌∙◌, arith, append_assoc, append-nil}
+use Rattle.std.specs.List.{AllPairs}
+use Rattle.std.proofs.lemmas.Bool.{eqb-true, ne_eqb, eq-eqb}
 use Rattle.std.proofs.lemmas.List.Elements.{filter-append, filter_agree}
 use Rattle.std.proofs.lemmas.List.Folds.{list_any-append}
 use Rattle.std.proofs.lemmas.List.Sums.{sum_by_push, sum_by-cons}
-use Rattle.flight_memo.specs.Claims.{ClaimsView, IsSingle, AreClosedClaims, Claim, Event, Begun, Ended, MayFollow, IsLegalAfter, IsLegalLog, live_claims, claims_in, claim_of, has_ended, is_end_of, has_claim_number, is_live, has_not_ended, begin_count, end_count, begin_count_of, end_count_of, has_other_claim_number}
+use Rattle.flight_memo.specs.Claims.{ClaimsView, IsSingle, AreClosedClaims, Claim, Event, Begun, Ended, MayFollow, IsLegalAfter, IsLegalLog, live_claims, claims_in, claim_of, has_ended, is_end_of, first_number, number_to_end, is_live, has_not_ended, begin_count, end_count, begin_count_of, end_count_of, has_other_claim_number}
 
 -- ---- truth values
 or_none : (a : Bool) → (a || false) ≡ a
@@ -23,11 +25,6 @@ module _ {X : Type 0} (p q : X → Bool) where
   filter_both : (xs : List X) → filter (λ x. p x && q x) xs ≡ filter q (filter p xs)
   filter_both [] = refl
   filter_both (x ∷ xs) = step x (filter (λ y. p y && q y) xs) (filter p xs) (p x) (filter_both xs)
-
-module _ {X : Type 0} where
-  step_few : (b : Bool) (few : List X) (x : X) (xs : List X) → length few ≤ length xs → length (cond b (x ∷ few) few) ≤ length (x ∷ xs)
-  step_few true few x xs le = omega (arith, le)
-  step_few false few x xs le = omega (arith, le)
 
 module _ {K : Type 0} where
   -- a legal log and an event that may follow it
@@ -85,35 +82,53 @@ module _ {K : Type 0} where
       ∙ filter_both (has_not_ended log) (has_other_claim_number number) (claims_in log)
 
   -- ---- a live claim less
-  without : (b : Bool) (number : ℕ) (claim : Claim K) (live : List (Claim K)) → (b ≡ false → length (filter (has_other_claim_number number) live) + 1 ≤ length live) → length (filter (has_other_claim_number number) live) ≤ length live → length (cond (not b) (claim ∷ filter (has_other_claim_number number) live) (filter (has_other_claim_number number) live)) + 1 ≤ length (claim ∷ live)
-  without true number claim live less few = omega (arith, few)
-  without false number claim live less few = omega (arith, less refl)
+  kept_first : (b : Bool) (claim : Claim K) (others live : List (Claim K)) → b ≡ false → length others ≡ length live → length (cond (not b) (claim ∷ others) others) ≡ length (claim ∷ live)
+  kept_first true claim others live is all = absurd (cc is)
+  kept_first false claim others live is all = omega (arith, all)
 
-  others_few : (number : ℕ) (live : List (Claim K)) → length (filter (has_other_claim_number number) live) ≤ length live
-  others_few number [] = omega arith
-  others_few number (claim ∷ live) = step_few (has_other_claim_number number claim) (filter (has_other_claim_number number) live) claim live (others_few number live)
+  -- where no claim has the number, none is left out
+  kept_all : (number : ℕ) (live : List (Claim K)) → ((k : ℕ) (d : Claim K) → k < length live → number ≡ (get_or live k d).number → ⊥) → length (filter (has_other_claim_number number) live) ≡ length live
+  kept_all number [] other = refl
+  kept_all number (claim ∷ live) other =
+      kept_first (nat_eq number claim.number) claim (filter (has_other_claim_number number) live) live (ne_eqb number claim.number (other 0 claim (omega arith)))
+      (kept_all number live (λ k d lt. other (suc k) d (omega (arith, lt))))
 
-  pub one_less : (number : ℕ) (live : List (Claim K)) → is_live number live ≡ true → length (filter (has_other_claim_number number) live) + 1 ≤ length live
-  one_less number [] is = absurd (cc is)
-  one_less number (claim ∷ live) is =
-      without (has_claim_number number claim) number claim live
-      (λ e. one_less number live (ap (λ b. b || is_live number live) (sym e) ∙ is))
-      (others_few number live)
+  without : (b : Bool) (number : ℕ) (claim : Claim K) (live : List (Claim K)) → (b ≡ true → length (filter (has_other_claim_number number) live) ≡ length live) →
+      (b ≡ false → length (filter (has_other_claim_number number) live) + 1 ≡ length live) →
+      length (cond (not b) (claim ∷ filter (has_other_claim_number number) live) (filter (has_other_claim_number number) live)) + 1 ≡ length (claim ∷ live)
+  without true number claim live all less = omega (arith, all refl)
+  without false number claim live all less = omega (arith, less refl)
 
--- claims of a legal log of which as many ended as began: none of them is live
+  pub one_less : (number : ℕ) (live : List (Claim K)) → AllPairs (λ a b. a.number ≡ b.number → ⊥) live → is_live number live ≡ true → length (filter (has_other_claim_number number) live) + 1 ≡ length live
+  one_less number [] apart is = absurd (cc is)
+  one_less number (claim ∷ live) apart is =
+      without (nat_eq number claim.number) number claim live
+      (λ e. kept_all number live (λ k d lt same. apart 0 (suc k) d (omega arith) (omega (arith, lt)) (sym (eqb-true number claim.number e) ∙ same)))
+      (λ e. one_less number live (λ i j d lt few. apart (suc i) (suc j) d (omega (arith, lt)) (omega (arith, few))) (ap (λ b. b || is_live number live) (sym e) ∙ is))
+
+  -- ---- the claim that an end ends is live
+  live_by_test : (number : ℕ) (live : List (Claim K)) → 0 < length live → (b : Bool) → is_live number live ≡ b → is_live (if b then number else first_number live) live ≡ true
+  live_by_test number live some true is = is
+  live_by_test number [] some false is = absurd (omega (arith, some))
+  live_by_test number (claim ∷ live) some false is = ap (λ b. b || is_live claim.number live) (eq-eqb claim.number claim.number refl)
+
+  pub to_end_is_live : (number : ℕ) (live : List (Claim K)) → 0 < length live → is_live (number_to_end number live) live ≡ true
+  to_end_is_live number live some = live_by_test number live some (is_live number live) refl
+
+-- claims of a legal log none of which is live: as many ended as began
 module _ {K : Type 0} where
-  pub none_left : (live : List (Claim K)) (begun ended : ℕ) → length live + ended ≤ begun → begun ≡ ended → live ≡ []
-  none_left [] begun ended few all = refl
-  none_left (claim ∷ live) begun ended few all = absurd (omega (arith, few, all))
+  none_left : (live : List (Claim K)) → length live ≡ 0 → live ≡ []
+  none_left [] none = refl
+  none_left (claim ∷ live) none = absurd (omega (arith, none))
 
-  pub closed_of : (misses : ℕ) (view : ClaimsView K) → IsLegalLog view.log → view.live ≡ live_claims view.log → IsSingle view.log → length view.live + end_count view.log ≤ begin_count view.log →
-      begin_count view.log ≡ misses → end_count view.log ≡ misses → AreClosedClaims misses view
-  closed_of misses view legal live single few begun ended =
-      let none = none_left view.live (begin_count view.log) (end_count view.log) few (begun ∙ sym ended) in record {
+  pub closed_of : (misses : ℕ) (view : ClaimsView K) → IsLegalLog view.log → view.live ≡ live_claims view.log → IsSingle view.log → length view.live + end_count view.log ≡ begin_count view.log →
+      begin_count view.log ≡ misses → length view.live ≡ 0 → AreClosedClaims misses view
+  closed_of misses view legal live single all begun held =
+      let none = none_left view.live held in record {
         legal = legal;
         single = single;
         begun = begun;
-        ended = ended;
+        ended = omega (arith, all, begun, held);
         live = none;
         none_live = sym live ∙ none;
       }

@@ -50,7 +50,7 @@ given_back_is_closed = record {
   none_live = refl;
 }
 
--- a log that has not so many beginnings as there were misses is not that of a closed memo
+-- a log that has fewer beginnings than there were misses is not that of a closed memo
 misses_more : AreClosedClaims 2 (ended_all finished) → ⊥
 misses_more closed = absurd (omega (arith, closed.begun))
 

@@ -15,7 +15,7 @@ pub data Event (K : Type 0) : Type 0 where
   Ended : (number : ℕ) → (filled : Bool) → Event K
 
 -- What contracts see of a claim that its caller holds: its number, its key, and the caller's share of the memo's books, on
--- which its miss and its beginning are booked, and its end is not.
+-- which its miss and its beginning are booked.
 pub record ClaimView (K : Type 0) : Type 0 where
   pub number : ℕ
   pub key : K
@@ -86,6 +86,15 @@ module _ {K : Type 0} where
   abbrev pub is_live : ℕ → List (Claim K) → Bool
   is_live number live = list_any (has_claim_number number) live
 
+  -- the number of the first of some claims, and 0 where there is none
+  abbrev pub first_number : List (Claim K) → ℕ
+  first_number [] = 0
+  first_number (claim ∷ live) = claim.number
+
+  -- the number of the claim that an end ends: the one given where it is live, and else that of the first live one
+  abbrev pub number_to_end : ℕ → List (Claim K) → ℕ
+  number_to_end number live = if is_live number live then number else first_number live
+
   -- no live claim has a key
   abbrev pub IsFree : K → List (Claim K) → Type 0
   IsFree key live = All (λ claim. claim.key ≡ key → ⊥) live
@@ -109,10 +118,6 @@ module _ {K : Type 0} where
   -- before a key begins again its claim has ended
   abbrev pub IsLegalLog : List (Event K) → Type 0
   IsLegalLog log = IsLegalAfter [] log
-
-  -- the log once the claim of a number was ended, where it was live
-  abbrev pub ended_log : Bool → ℕ → Bool → List (Event K) → List (Event K)
-  ended_log live number filled log = if live then log ++ Ended number filled ∷ [] else log
 
   -- at no moment of a log has a key two live claims
   abbrev pub IsSingle : List (Event K) → Type 0

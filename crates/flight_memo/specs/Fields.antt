@@ -33,10 +33,10 @@ module _ {K : Type 0} where
   events_of items = map event_of items
 
   -- What claims keep: the log is legal, the live claims are those of the log, there is room for an end of each, and those that
-  -- are live and those that ended are no more than began.
+  -- are live and those that ended are together as many as began.
   pub record ClaimsMatchLog (begun : ℕ) (view : ClaimsView K) : Type 0 where
     pub legal : IsLegalLog view.log
     pub live : view.live ≡ live_claims view.log
     pub count : begun ≡ begin_count view.log
     pub room : length view.live ≤ view.spare
-    pub few : length view.live + end_count view.log ≤ begin_count view.log
+    pub all : length view.live + end_count view.log ≡ begin_count view.log

@@ -11,18 +11,18 @@ use std::sync::{Arc, Condvar};
 use subtree_memo::Share;
 
 /// A claim of one's own, which is to be spent: it is not dropped, and only `finish` and `give_back` take it. It takes along its
-/// caller's share of the books, so that the caller can claim no second key, and its books hold no end without one in the log.
+/// caller's share of the books, so that the caller can claim no second key, and its books have it as one that is held.
 pub struct Claim<K, B: FlightBooks> {
     pub(crate) ticket: Ticket<K>,
     pub(crate) share: Share<B>,
     pub(crate) begun: Part<B::Begun>,
-    pub(crate) ended: Part<B::Ended>,
+    pub(crate) held: Part<B::Held>,
     /// Tells the claim's end to those who wait for it.
     pub(crate) signal: Arc<Condvar>,
 }
 
 impl<K, B: FlightBooks> Model for Claim<K, B> {
-    ghost use Rattle.std.specs.Prelude.{◌≡◌, ◌+◌, ◌<◌};
+    ghost use Rattle.std.specs.Prelude.{◌≡◌, ◌<◌};
     ghost use Rattle.std.specs.Arc.{arc_value};
     ghost use Rattle.flight_memo.specs.Claims.{ClaimView};
 
@@ -35,6 +35,6 @@ impl<K, B: FlightBooks> Model for Claim<K, B> {
     } };
 
     ghost invariant = { λ c. (0 < c.share.parts) × (c.begun.parts ≡ c.share.parts)
-        × (c.ended.parts ≡ c.share.parts)
-        × (c.begun.amount ≡ c.share.misses) × (c.ended.amount + 1 ≡ c.share.misses) };
+        × (c.held.parts ≡ c.share.parts)
+        × (c.begun.amount ≡ c.share.misses) × (c.held.amount ≡ 1) };
 }

@@ -4,15 +4,15 @@ ghost use Rattle.std.specs.Prelude.{◌≡◌, ◌+◌, ◌≤◌, ◌<◌, [], 
 ghost use Rattle.std.specs.Prelude.{vec_capacity, IfOk, OnOk, IfSome, IfNone};
 ghost use Rattle.std.specs.Arc.{arc_value};
 ghost use Rattle.std.specs.List.{list_any};
-ghost use Rattle.flight_memo.specs.Claims.{Begun, IsFree, IsSingle, IsLegalLog};
-ghost use Rattle.flight_memo.specs.Claims.{live_claims, begin_count, end_count, is_live, ended_log};
-ghost use Rattle.flight_memo.specs.Fields.{events_of, is_item, is_other_item};
+ghost use Rattle.flight_memo.specs.Claims.{Begun, Ended, IsFree, IsSingle, IsLegalLog};
+ghost use Rattle.flight_memo.specs.Claims.{live_claims, begin_count, end_count, number_to_end};
+ghost use Rattle.flight_memo.specs.Fields.{claims_of, events_of, is_item, is_other_item};
 
 use memo_core::Fit;
+use plain_text::NoMemory;
 use std::alloc::Global;
 use std::marker::Model;
 use std::sync::{Arc, Condvar};
-use text_place::NoMemory;
 
 /// A claim that is live: its number, whose it is, of which key, and by what its end is told to those who wait for it.
 #[derive(Drop)]
@@ -123,7 +123,7 @@ impl<F: Fit> Claims<F> {
         ensures legal { IsLegalLog self.now.log }
         ensures live { self.now.live ≡ live_claims self.now.log }
         ensures single { IsSingle self.now.log }
-        ensures few { length self.now.live + end_count self.now.log ≤ begin_count self.now.log }
+        ensures all { length self.now.live + end_count self.now.log ≡ begin_count self.now.log }
     {
         self.log.as_slice()
     }
@@ -168,6 +168,7 @@ impl<F: Fit> Claims<F> {
           caller = caller;
           key = arc_value copies.noted;
         }) ∷ [] }
+        ensures live { length self.new.live ≡ length self.old.live + 1 }
         ensures claim { (result.number ≡ begin_count self.old.log)
             × (arc_value result.key ≡ arc_value copies.noted) }
     {
@@ -188,19 +189,19 @@ impl<F: Fit> Claims<F> {
         Ticket { number, key: own }
     }
 
-    /// Ends a claim where it is live, and says whether it was.
-    pub(crate) fn end(&mut self, claim: Ticket<F::Key>, filled: bool) -> bool
-        ensures live { result ≡ is_live claim.number self.old.live }
-        ensures log { self.new.log ≡ ended_log result claim.number filled self.old.log }
+    /// Ends a live claim, of which there is one: that of the ticket, where it is live, as each one is. No proof knows this, so the
+    /// first live claim stands in for one that isn't.
+    pub(crate) fn end(&mut self, claim: Ticket<F::Key>, filled: bool)
+        requires some { 0 < length self.old.live }
+        ensures log { self.new.log
+            ≡ self.old.log ++ Ended (number_to_end claim.number self.old.live) filled ∷ [] }
+        ensures live { length self.new.live + 1 ≡ length self.old.live }
     {
         let Ticket { number, key } = claim;
         drop(key);
-        let is_live = has_number(&self.live, number);
-        if is_live {
-            self.log.push_reserved(LogItem::Ended { number, filled });
-            take_out(&mut self.live, number);
-        }
-        is_live
+        let number = ending_number(&self.live, number);
+        self.log.push_reserved(LogItem::Ended { number, filled });
+        take_out(&mut self.live, number);
     }
 }
 
@@ -209,6 +210,18 @@ fn has_number<K>(live: &[LiveClaim<K>], number: u64) -> bool
     ensures { result ≡ list_any (is_item number) live.now }
 {
     live.iter().any(|claim| number == claim.number)
+}
+
+// The number of the live claim that ends: the one given, where it is live, and else the first one's.
+fn ending_number<K>(live: &[LiveClaim<K>], number: u64) -> u64
+    requires { 0 < length live.now }
+    ensures { result ≡ number_to_end number (claims_of live.now) }
+{
+    if has_number(live, number) {
+        number
+    } else {
+        live[0].number
+    }
 }
 
 // Takes out the claims of a number.

@@ -1,6 +1,8 @@
-ghost use Rattle.std.specs.Prelude.{◌≡◌, ◌<◌, ◌++◌, ◌∷◌, [], IfOk, OnErr};
+//! The desk behind the memo's lock of claims: whether a key gets a new claim or waits for a live one.
+
+ghost use Rattle.std.specs.Prelude.{◌≡◌, ◌<◌, ◌++◌, ◌∷◌, [], length, IfOk, OnErr};
 ghost use Rattle.std.specs.Arc.{arc_value};
-ghost use Rattle.flight_memo.specs.Claims.{Ended, begin_count, end_count};
+ghost use Rattle.flight_memo.specs.Claims.{Ended, begin_count, number_to_end};
 ghost use Rattle.flight_memo.specs.Asking.{IsAsked};
 
 use crate::claim::Claim;
@@ -9,12 +11,12 @@ use crate::flight::Claimed;
 use crate::flight_share::FlightShare;
 use crate::ledgers::FlightBooks;
 use memo_core::{Fit, Namer, Probe};
+use plain_text::NoMemory;
 use std::alloc::Global;
+use std::mem;
 use std::sync::ledger::{Book, Ledger, Share as Part};
 use std::sync::{Arc, Condvar, Wait};
-use std::{mem, thread};
 use subtree_memo::{AskPolicy, Memo};
-use text_place::NoMemory;
 
 /// What comes of asking for a key once.
 pub enum Asking<K, V, B: FlightBooks> {
@@ -23,19 +25,19 @@ pub enum Asking<K, V, B: FlightBooks> {
     Wait(Arc<Condvar>),
 }
 
-/// The claims of a memo, and beside them the books of their log's counts.
+/// The claims of a memo, and beside them books of how many began, and of how many are live: just as many are held.
 #[derive(Drop)]
 pub struct Desk<F: Fit, B: FlightBooks> {
     pub claims: Claims<F>,
     pub begun: Book<B::Begun>,
-    pub ended: Book<B::Ended>,
+    pub held: Book<B::Held>,
     pub ghost begun_are: { begun.total ≡ begin_count claims.log },
-    pub ghost ended_are: { ended.total ≡ end_count claims.log },
+    pub ghost held_are: { held.total ≡ length claims.live },
 }
 
 impl<F: Fit, B: FlightBooks + AskPolicy<F::Key>> Desk<F, B> {
-    /// Asks the memo for a key that no live claim has, and claims it where it is missed. Where a live claim has the key, its end is to
-    /// be waited for. NoMemory books and claims nothing.
+    /// Asks the memo for a key that no live claim has, and claims it where it is missed. Where a live claim has the key, its
+    /// end is to be waited for. NoMemory books and claims nothing.
     pub fn try_claim<N: Namer<F::Key>, R: Wait>(
         &mut self,
         rt: &R,
@@ -63,44 +65,37 @@ impl<F: Fit, B: FlightBooks + AskPolicy<F::Key>> Desk<F, B> {
             Probe::Miss => {
                 let ticket = self.claims.begin(share.share.caller(), copies, told);
                 self.begun.add(&mut share.begun, 1);
+                self.held.add(&mut share.held, 1);
                 Ok(Asking::Answer(Claimed::Mine(Claim {
                     ticket,
                     share: share.share.take(),
                     begun: taken(&mut share.begun),
-                    ended: taken(&mut share.ended),
+                    held: taken(&mut share.held),
                     signal,
                 })))
             }
         }
     }
 
-    /// Ends a claim, which is live: one end is in the log then, and booked. Gives the share back that the claim took along, and by
-    /// what the end is to be told.
-    pub fn end<R: Wait>(
-        &mut self,
-        rt: &R,
-        claim: Claim<F::Key, B>,
-        filled: bool,
-    ) -> (FlightShare<B>, Arc<Condvar>)
-        ensures log { self.new.claims.log ≡ self.old.claims.log ++ Ended claim.number filled ∷ [] }
+    /// Ends a claim: one end is in the log then, of this claim where it is live. Gives the share back that the claim took along, and
+    /// by what the end is to be told.
+    pub fn end(&mut self, claim: Claim<F::Key, B>, filled: bool) -> (FlightShare<B>, Arc<Condvar>)
+        ensures log { self.new.claims.log ≡ self.old.claims.log
+            ++ Ended (number_to_end claim.number self.old.claims.live) filled ∷ [] }
         ensures share { result.0.share ≡ claim.share }
     {
         let Claim {
             ticket,
             share,
             begun,
-            mut ended,
+            mut held,
             signal,
         } = claim;
-        if !self.claims.end(ticket, filled) {
-            wait_for_ever(rt);
-        }
-        self.ended.add(&mut ended, 1);
-        let own = FlightShare {
-            share,
-            begun,
-            ended,
-        };
+        // As many claims are live as are held, so one is.
+        self.held.audit(&mut held);
+        self.claims.end(ticket, filled);
+        self.held.sub(&mut held, 1);
+        let own = FlightShare { share, begun, held };
         (own, signal)
     }
 }
@@ -112,14 +107,4 @@ fn taken<L: Ledger>(part: &mut Part<L>) -> Part<L>
 {
     let empty = part.empty();
     mem::replace(part, empty)
-}
-
-// Never returns. It stands where no claim comes: that of a claim that is not live, as no proof knows that each one is.
-fn wait_for_ever<R: Wait>(rt: &R)
-    ensures { ⊥ }
-{
-    for _ in rt.forever() {
-        thread::yield_now();
-    }
-    unreachable!()
 }

@@ -1,3 +1,5 @@
+//! Single flight: a missing key is built by the one caller that claims it, while the others wait for that claim.
+
 ghost use Rattle.std.specs.Prelude.{◌≡◌, ◌<◌, All, map, sum_by, IfOk, OnErr};
 ghost use Rattle.std.specs.Arc.{arc_value};
 ghost use Rattle.memo_core.specs.Views.{IsSound};
@@ -14,10 +16,10 @@ use crate::desk::{Asking, Desk};
 use crate::flight_share::{FlightShare, all_flights, flights_of};
 use crate::ledgers::{FlightBlanks, FlightBooks};
 use memo_core::{Fill, Fit, MemoCore, Namer};
+use plain_text::NoMemory;
 use std::alloc::Global;
 use std::sync::{Arc, Mutex, Wait};
 use subtree_memo::{AskPolicy, Memo, Share, Tally};
-use text_place::NoMemory;
 
 /// The answer to a claim: the value, which the memo held, or a claim of one's own.
 pub enum Claimed<K, V, B: FlightBooks> {
@@ -46,16 +48,16 @@ impl<F: Fit, N: Namer<F::Key>, B: FlightBooks + AskPolicy<F::Key>> Flight<F, N, 
         requires shares { shares.items ≡ opened_shares blanks.callers }
         requires callers { blanks.callers ≡ B.Hits.callers }
         requires ledgers { IsBlankLedger B.Begun.name B.Begun.parts blanks.begun
-            × IsBlankLedger B.Ended.name B.Ended.parts blanks.ended }
+            × IsBlankLedger B.Held.name B.Held.parts blanks.held }
         ensures { IfOk result (λ r. r.1.items ≡ opened_flights shares.items) }
     {
         let (begun, begun_parts) = blanks.begun.open::<B::Begun>();
-        let (ended, ended_parts) = blanks.ended.open::<B::Ended>();
-        let flights = flights_of(alloc, shares, begun_parts, ended_parts)?;
+        let (held, held_parts) = blanks.held.open::<B::Held>();
+        let flights = flights_of(alloc, shares, begun_parts, held_parts)?;
         let desk = Desk {
             claims: Claims::new(alloc, fit),
             begun,
-            ended,
+            held,
         };
         let flight = Flight {
             memo,
@@ -64,10 +66,10 @@ impl<F: Fit, N: Namer<F::Key>, B: FlightBooks + AskPolicy<F::Key>> Flight<F, N, 
         Ok((flight, flights))
     }
 
-    /// Asks for a key by one probe. What the memo holds is a hit, for which the claims' lock is not taken. Else the probe comes once
-    /// no live claim has the key, while none has and the claims' lock is held: the value where it was a hit, and where it was a
-    /// miss a claim of the key, which is one beginning in the log. It may wait, for the end of a claim of this very key. NoMemory
-    /// books and claims nothing.
+    /// Asks for a key by one probe. What the memo holds is a hit, for which the claims' lock is not taken. Else the probe comes
+    /// once no live claim has the key, while none has and the claims' lock is held: the value where it was a hit, and where it
+    /// was a miss a claim of the key, which is one beginning in the log. It may wait, for the end of a claim of this very key.
+    /// NoMemory books and claims nothing.
     pub fn claim<R: Wait>(
         &self,
         rt: &R,
@@ -93,8 +95,8 @@ impl<F: Fit, N: Namer<F::Key>, B: FlightBooks + AskPolicy<F::Key>> Flight<F, N, 
         unreachable!()
     }
 
-    /// Fills the key of a claim, as `Memo::fill`, and then ends the claim. The caller has its share back then, on which the fill and
-    /// the end are booked. Wakes who waits for this key.
+    /// Fills the key of a claim, as `Memo::fill`, and then ends the claim. The caller has its share back then, on which the
+    /// fill and the end are booked. Wakes who waits for this key.
     pub fn finish<R: Wait>(
         &self,
         rt: &R,
@@ -115,32 +117,34 @@ impl<F: Fit, N: Namer<F::Key>, B: FlightBooks + AskPolicy<F::Key>> Flight<F, N, 
         let answer = self
             .memo
             .fill(rt, alloc, &mut claim.share, key, value, weight);
-        let (own, ended) = self.desk.lock(rt).end(rt, claim, true);
+        let (own, ended) = self.desk.lock(rt).end(claim, true);
         ended.notify_all();
         share.absorb(own);
         answer
     }
 
     /// Ends a claim without a fill. The caller has its share back then, on which the end is booked. Wakes who waits for this
-    /// key. Takes no memory: the log has had room for this end since the claim began. That waiters are woken is shown by cases alone.
+    /// key. Takes no memory: the log has had room for this end since the claim began. That waiters are woken is shown by cases
+    /// alone.
     pub fn give_back<R: Wait>(&self, rt: &R, share: &mut FlightShare<B>, claim: Claim<F::Key, B>)
         requires { claim.share.caller ≡ share.old.share.caller }
         ensures { share.new.share ≡ joined_share share.old.share claim.share }
     {
-        let (own, ended) = self.desk.lock(rt).end(rt, claim, false);
+        let (own, ended) = self.desk.lock(rt).end(claim, false);
         ended.notify_all();
         share.absorb(own);
     }
 
-    /// The memo, its tally and the claims, once all shares are back. The tally is that of the memo's journal, and what was booked
-    /// on the shares. The log of the claims is legal, so that no key ever had two live claims; it has as many beginnings as there were
-    /// misses, and as many ends, so that no claim is live. Each caller of the journal might ask for the key of its item.
+    /// The memo, its tally and the claims, once all shares are back. The tally is that of the memo's journal, and what was
+    /// booked on the shares. The log of the claims is legal, so that no key ever had two live claims; it has as many beginnings
+    /// as there were misses, and as many ends, so that no claim is live. Each caller of the journal might ask for the key of
+    /// its item.
     pub fn close(self, shares: Vec<FlightShare<B>>) -> (Tally, MemoCore<F, N>, Claims<F>)
         requires whole { (0 < B.Hits.parts)
             × (sum_by (λ s. s.share.parts) shares.items ≡ B.Hits.parts) }
         requires ledgers { (B.Misses.parts ≡ B.Hits.parts) × (B.Kept.parts ≡ B.Hits.parts)
             × (B.Heavy.parts ≡ B.Hits.parts)
-            × (B.Begun.parts ≡ B.Hits.parts) × (B.Ended.parts ≡ B.Hits.parts) }
+            × (B.Begun.parts ≡ B.Hits.parts) × (B.Held.parts ≡ B.Hits.parts) }
         ensures tally { result.0 ≡ tally_of result.1.journal result.0.dropped }
         ensures booked { AreSums (map (λ s. s.share) shares.items) result.0 }
         ensures claims { AreClosedClaims result.0.misses result.2 }
@@ -153,7 +157,7 @@ impl<F: Fit, N: Namer<F::Key>, B: FlightBooks + AskPolicy<F::Key>> Flight<F, N, 
         let Desk {
             claims,
             mut begun,
-            mut ended,
+            mut held,
         } = desk.into_inner();
         let Some(all) = all_flights(shares) else {
             unreachable!()
@@ -161,10 +165,10 @@ impl<F: Fit, N: Namer<F::Key>, B: FlightBooks + AskPolicy<F::Key>> Flight<F, N, 
         let FlightShare {
             share,
             begun: mut begun_parts,
-            ended: mut ended_parts,
+            held: mut held_parts,
         } = all;
         begun.audit(&mut begun_parts);
-        ended.audit(&mut ended_parts);
+        held.audit(&mut held_parts);
         // Its type says what a log of claims keeps, and which of them are live.
         let _log = claims.log();
         let (tally, core) = memo.close_whole(share);

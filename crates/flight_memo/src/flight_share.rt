@@ -1,21 +1,23 @@
+//! What one caller has booked: probes, fills, and claims that began and ended.
+
 ghost use Rattle.std.specs.Prelude.{◌≡◌, ◌-◌, ◌*◌, ◌≤◌, [], length, IfOk, IfSome, IfNone};
 ghost use Rattle.subtree_memo.specs.Shares.{opened_shares, parts_each};
 ghost use Rattle.flight_memo.specs.Shares.{fresh_flight, joined_flights, opened_flights, IsAllOf};
 
 use crate::ledgers::{FlightBooks, PARTS_EACH};
+use plain_text::NoMemory;
 use std::alloc::Global;
 use std::marker::Model;
 use std::sync::ledger::Share as Part;
 use subtree_memo::Share;
-use text_place::NoMemory;
 
-/// One caller's share of the books of a memo and of its claims: as many claims began on it as there were misses, and as many
-/// ended.
+/// One caller's share of the books of a memo and of its claims: as many claims began on it as there were misses, and none is
+/// held on it.
 #[derive(Drop)]
 pub struct FlightShare<B: FlightBooks> {
     pub(crate) share: Share<B>,
     pub(crate) begun: Part<B::Begun>,
-    pub(crate) ended: Part<B::Ended>,
+    pub(crate) held: Part<B::Held>,
 }
 
 impl<B: FlightBooks> Model for FlightShare<B> {
@@ -26,8 +28,8 @@ impl<B: FlightBooks> Model for FlightShare<B> {
 
     ghost view = { λ s. record { share = s.share } };
 
-    ghost invariant = { λ s. (s.begun.parts ≡ s.share.parts) × (s.ended.parts ≡ s.share.parts)
-        × (s.begun.amount ≡ s.share.misses) × (s.ended.amount ≡ s.share.misses) };
+    ghost invariant = { λ s. (s.begun.parts ≡ s.share.parts) × (s.held.parts ≡ s.share.parts)
+        × (s.begun.amount ≡ s.share.misses) × (s.held.amount ≡ 0) };
 }
 
 impl<B: FlightBooks> FlightShare<B> {
@@ -49,7 +51,7 @@ impl<B: FlightBooks> FlightShare<B> {
         FlightShare {
             share: self.share.split(),
             begun: self.begun.split_off(1, 0),
-            ended: self.ended.split_off(1, 0),
+            held: self.held.split_off(1, 0),
         }
     }
 
@@ -65,14 +67,10 @@ impl<B: FlightBooks> FlightShare<B> {
     fn put_together(&mut self, other: FlightShare<B>)
         ensures { self.new ≡ joined_flights self.old other }
     {
-        let FlightShare {
-            share,
-            begun,
-            ended,
-        } = other;
+        let FlightShare { share, begun, held } = other;
         self.share.put_together(share);
         self.begun.merge(begun);
-        self.ended.merge(ended);
+        self.held.merge(held);
     }
 }
 
@@ -81,11 +79,11 @@ pub fn flights_of<B: FlightBooks>(
     alloc: Global,
     shares: Vec<Share<B>>,
     mut begun: Part<B::Begun>,
-    mut ended: Part<B::Ended>,
+    mut held: Part<B::Held>,
 ) -> Result<Vec<FlightShare<B>>, NoMemory>
     requires shares { shares.items ≡ opened_shares (length shares.items) }
     requires begun { (begun.parts ≡ parts_each * length shares.items) × (begun.amount ≡ 0) }
-    requires ended { (ended.parts ≡ parts_each * length shares.items) × (ended.amount ≡ 0) }
+    requires held { (held.parts ≡ parts_each * length shares.items) × (held.amount ≡ 0) }
     ensures { IfOk result (λ v. v.items ≡ opened_flights shares.items) }
 {
     let mut flights = Vec::with_capacity(alloc, shares.len())?;
@@ -93,7 +91,7 @@ pub fn flights_of<B: FlightBooks>(
         flights.push_reserved(FlightShare {
             share,
             begun: begun.split_off(PARTS_EACH, 0),
-            ended: ended.split_off(PARTS_EACH, 0),
+            held: held.split_off(PARTS_EACH, 0),
         });
     }
     Ok(flights)

@@ -1,3 +1,5 @@
+//! The ledgers on which claims are booked beside the memo's own, packed into one type.
+
 ghost use Rattle.std.specs.Prelude.{◌≡◌, ◌*◌, ◌≤◌};
 ghost use Rattle.subtree_memo.specs.Shares.{parts_each};
 
@@ -13,17 +15,17 @@ pub trait FlightBooks: Books {
     /// Of claims that began.
     type Begun: Ledger;
 
-    /// Of claims that ended.
-    type Ended: Ledger;
+    /// Of claims that are held.
+    type Held: Ledger;
 }
 
 /// The books of these six ledgers, the last two of claims. Only who opens a memo knows the ledgers one by one.
-pub struct FlightLedgers<H, M, K, E, Begins, Ends> {
-    of: PhantomData<(H, M, K, E, Begins, Ends)>,
+pub struct FlightLedgers<H, M, K, E, Begins, Holds> {
+    of: PhantomData<(H, M, K, E, Begins, Holds)>,
 }
 
-impl<H: MemoLedger, M: Ledger, K: Ledger, E: Ledger, Begins: Ledger, Ends: Ledger> Books
-    for FlightLedgers<H, M, K, E, Begins, Ends> {
+impl<H: MemoLedger, M: Ledger, K: Ledger, E: Ledger, Begins: Ledger, Holds: Ledger> Books
+    for FlightLedgers<H, M, K, E, Begins, Holds> {
     type Hits = H;
 
     type Misses = M;
@@ -33,11 +35,11 @@ impl<H: MemoLedger, M: Ledger, K: Ledger, E: Ledger, Begins: Ledger, Ends: Ledge
     type Heavy = E;
 }
 
-impl<H: MemoLedger, M: Ledger, K: Ledger, E: Ledger, Begins: Ledger, Ends: Ledger> FlightBooks
-    for FlightLedgers<H, M, K, E, Begins, Ends> {
+impl<H: MemoLedger, M: Ledger, K: Ledger, E: Ledger, Begins: Ledger, Holds: Ledger> FlightBooks
+    for FlightLedgers<H, M, K, E, Begins, Holds> {
     type Begun = Begins;
 
-    type Ended = Ends;
+    type Held = Holds;
 }
 
 impl<
@@ -47,8 +49,8 @@ impl<
     K: Ledger,
     E: Ledger,
     Begins: Ledger,
-    Ends: Ledger,
-> AskPolicy<Key> for FlightLedgers<H, M, K, E, Begins, Ends> {
+    Holds: Ledger,
+> AskPolicy<Key> for FlightLedgers<H, M, K, E, Begins, Holds> {
     ghost may_ask = { H.may_ask };
 }
 
@@ -57,9 +59,9 @@ impl<
 pub struct FlightBlanks {
     pub callers: u32,
     pub begun: Blank,
-    pub ended: Blank,
+    pub held: Blank,
     pub ghost some: { (1 ≤ callers) × (callers ≤ 64) },
-    pub ghost cut: { (begun.parts ≡ parts_each * callers) × (ended.parts ≡ parts_each * callers) },
+    pub ghost cut: { (begun.parts ≡ parts_each * callers) × (held.parts ≡ parts_each * callers) },
 }
 
 impl FlightBlanks {
@@ -72,7 +74,7 @@ impl FlightBlanks {
         FlightBlanks {
             callers,
             begun: Blank::new(parts),
-            ended: Blank::new(parts),
+            held: Blank::new(parts),
         }
     }
 }

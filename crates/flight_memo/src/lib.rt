@@ -1,6 +1,7 @@
-//! One live claim for each missing key of a memo, for which whoever else asks for the key waits.
+//! Claims on the missing keys of a memo: a missing key has one live claim, and every other caller that asks for the key waits.
 //!
-//! Who misses a key claims it; each claim ends in a call of its holder, and once the memo is closed all have ended.
+//! The caller that misses a key claims it. Each claim ends in a call of its holder, and all claims have ended once the memo is
+//! closed.
 #![tactic(auto)]
 
 mod claim;

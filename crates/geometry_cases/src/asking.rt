@@ -6,12 +6,12 @@ use bsp_tree::{Link, Solid, holds};
 use case_lines::{CaseStop, found, put, put_number, put_plane, put_stroked, unit_of};
 use facet_cut::{CutStop, Facet, facets, facets_by};
 use off_text::{OffStop, off_bytes, off_bytes_by};
+use plain_text::NoMemory;
 use plane_predicate::Unit;
 use std::alloc::Global;
 use std::thread::Threads;
-use text_place::NoMemory;
 
-/// Who cuts and writes facets: the thread that asks, or so many workers.
+/// Who cuts and writes facets: the thread that asks, or the given number of workers.
 #[derive(Drop)]
 pub struct Hands<'a, R: Threads + Sync> {
     pub rt: &'a R,
@@ -68,7 +68,7 @@ fn put_nodes(alloc: Global, out: &mut Vec<u8>, solid: &Solid) -> Result<(), Case
     Ok(())
 }
 
-// The facets of a solid, of which there are so many at most, and how many there are.
+// The facets of a solid, within the given number, and how many there are.
 fn put_count<R: Threads + Sync>(
     hands: &Hands<'_, R>,
     alloc: Global,

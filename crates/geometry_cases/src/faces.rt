@@ -4,10 +4,10 @@ ghost use Rattle.plane_predicate.specs.Space.{ComesInReach};
 
 use crate::numbers::planes_of;
 use case_lines::{CaseStop, put, put_number, put_numbers, put_planes};
+use plain_text::NoMemory;
 use plane_predicate::Plane;
 use plane_table::{Edges, Face, JoinedPlanes, OwnFace, half_face, join};
 use std::alloc::Global;
-use text_place::NoMemory;
 
 /// The planes that the face of a half space names, the number of its own, those of its edges, and its size.
 pub fn put_face(alloc: Global, out: &mut Vec<u8>, plane: &Plane) -> Result<(), CaseStop>

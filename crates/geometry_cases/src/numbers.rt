@@ -2,9 +2,9 @@
 
 use crate::put::{put_point, put_side};
 use case_lines::{CaseStop, put, put_numbers, put_plane, through};
+use plain_text::NoMemory;
 use plane_predicate::{Plane, Point, Side, meet, opposite, plane_of, point_side, reduce, side};
 use std::alloc::Global;
-use text_place::NoMemory;
 
 // The greatest size of a direction, and of an offset.
 const MOST: u64 = 134_152_200;

@@ -91,7 +91,7 @@ impl Polygons {
         Ok(())
     }
 
-    // The last polygon, so many times, as facets that it faces.
+    // The last polygon, the given number of times, as facets that it faces.
     fn end_facet(&mut self, alloc: Global, times: i64) -> Result<(), CaseStop> {
         let polygon = self.items.pop().ok_or(CaseStop::Unread)?;
         for _ in 0..times {
@@ -114,7 +114,8 @@ impl Polygons {
         self.end_facet(alloc, 1)
     }
 
-    /// Adds so many squares from 2i to 2i + 1 and from 2j to 2j + 1, for i and j from 0 to 122, in order of i and then j.
+    /// Adds the given number of squares from 2i to 2i + 1 and from 2j to 2j + 1, for i and j from 0 to 122, in order of i and
+    /// then j.
     pub fn put_squares(&mut self, alloc: Global, count: i64) -> Result<(), CaseStop> {
         let count = u16::try_from(count).ok().ok_or(CaseStop::Unread)?;
         for at in 0..count {

@@ -1,10 +1,10 @@
 //! Points, sides and polygons in words.
 
 use case_lines::{put, put_numbers};
+use plain_text::NoMemory;
 use plane_polygon::{Class, Polygon, corners};
 use plane_predicate::{Point, Side};
 use std::alloc::Global;
-use text_place::NoMemory;
 
 pub fn put_point(alloc: Global, out: &mut Vec<u8>, point: &Point) -> Result<(), NoMemory> {
     put_numbers(alloc, out, &[point.x, point.y, point.z, point.w])

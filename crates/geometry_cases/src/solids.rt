@@ -5,10 +5,10 @@ use bsp_partition::partition;
 use bsp_tree::{Forest, Link, Solid, exchange, half};
 use case_lines::{CaseStop, Walls, box_walls, found, high, put, put_number, slab_walls};
 use csg_tree::Op;
+use plain_text::NoMemory;
 use plane_polygon::Polygon;
 use plane_table::face_of;
 use std::alloc::Global;
-use text_place::NoMemory;
 
 /// What a phrase makes of the solids.
 #[derive(Clone, Copy)]
@@ -80,7 +80,7 @@ fn with_slab(alloc: Global, all: &Solid, axis: i64, at: i64) -> Result<Solid, Ca
     Ok(merge(alloc, Op::Union, all, &next)?)
 }
 
-// The union of so many slabs of an axis from a coordinate on, with a step between them.
+// The union of the given number of slabs of an axis from a coordinate on, with a step between them.
 fn slabs(alloc: Global, axis: i64, from: i64, count: i64) -> Result<Solid, CaseStop> {
     let mut all = Solid::leaf(alloc, false);
     for step in 0..count {
@@ -97,7 +97,8 @@ fn past(alloc: Global, all: &Solid, axis: i64, at: i64) -> Result<Solid, CaseSto
     Ok(merge(alloc, Op::Intersection, all, &next)?)
 }
 
-// What lies beyond so many planes of an axis, one step apart, from a coordinate on: each node is ahead of the one before it.
+// What lies beyond the given number of planes of an axis, one step apart, from a coordinate on: each node is ahead of the one
+// before it.
 fn beyond(alloc: Global, axis: i64, from: i64, count: i64) -> Result<Solid, CaseStop> {
     let mut all = Solid::leaf(alloc, true);
     for step in 0..count {

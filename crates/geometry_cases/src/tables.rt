@@ -10,6 +10,7 @@ ghost use Rattle.plane_table.specs.Joins.{AreNumbersOf};
 use crate::faces::put_numbers_of;
 use crate::put::{put_class, put_corners};
 use case_lines::{CaseStop, found, put, put_numbers, put_planes};
+use plain_text::NoMemory;
 use plane_polygon::Class;
 use plane_predicate::Plane;
 use plane_table::{
@@ -17,7 +18,6 @@ use plane_table::{
     join, keep_used, mark_used, polygon_of, renumber, sides, sides_where_across,
 };
 use std::alloc::Global;
-use text_place::NoMemory;
 
 #[derive(Clone, Copy)]
 pub enum Tabling {
@@ -52,7 +52,7 @@ fn moved(
     requires numbers { AreNumbersOf planes.now numbers.now from.now }
     ensures { IfOk result (IsFaceOver planes.now) }
 {
-    // Brings a law alone: where all planes of a list have numbers, so have those of a face.
+    // Called for its law; does nothing when it runs: where all planes of a list have numbers, so have those of a face.
     faces_are_found();
     renumber(alloc, face, numbers)
 }

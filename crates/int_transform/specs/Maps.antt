@@ -106,7 +106,7 @@ rotation_of (suc (suc n)) c s = record {
   z = record { a = pos 0; b = pos 0; c = pos 1; d = pos 0 };
 }
 
--- a map done so many times
+-- a map done the given number of times
 abbrev pub power_of : Affine → ℕ → Affine
 power_of m zero = identity
 power_of m (suc n) = composition m (power_of m n)

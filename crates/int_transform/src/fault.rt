@@ -1,3 +1,5 @@
+//! Why steps give points no images: a coordinate too large, or out of memory.
+
 ghost use Rattle.std.specs.Prelude.{◌≡◌};
 
 use std::alloc::AllocFailed;

@@ -41,7 +41,7 @@ impl Step {
         }
     }
 
-    /// So many right-handed quarter rotations about axis 0, 1 or 2.
+    /// The given number of right-handed quarter rotations about axis 0, 1 or 2.
     pub fn quarter(axis: u8, turns: u8) -> Step
         requires axis_is { axis < 3 }
         requires turns_are { turns < 4 }
@@ -160,7 +160,7 @@ fn rotation(axis: u8, cos: i64, sin: i64) -> Affine
     }
 }
 
-// The cosine of so many quarter rotations.
+// The cosine of the given number of quarter rotations.
 fn cosine(turns: u8) -> i64
     requires { turns < 4 }
     ensures { result ≡ cosine_of turns }
@@ -172,7 +172,7 @@ fn cosine(turns: u8) -> i64
     }
 }
 
-// The sine of so many quarter rotations.
+// The sine of the given number of quarter rotations.
 fn sine(turns: u8) -> i64
     requires { turns < 4 }
     ensures value { result ≡ sine_of turns }

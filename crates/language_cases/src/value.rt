@@ -76,7 +76,7 @@ fn first_value(program: &Program) -> Option<&Expr> {
     None
 }
 
-// The value where so many turns were counted, and `later` is 7.
+// The value where the given number of turns were counted, and `later` is 7.
 fn value_after(alloc: Global, program: &Program, expr: &Expr, turns: u64) -> Result<Value, Stop> {
     if turns > 100_000 {
         return Ok(Value::Undef);
@@ -105,7 +105,7 @@ fn put_first(
     }
 }
 
-/// The value of a source's first assignment where so many turns were counted, or the first fault.
+/// The value of a source's first assignment where the given number of turns were counted, or the first fault.
 pub fn put_value_after(
     alloc: Global,
     out: &mut Vec<u8>,

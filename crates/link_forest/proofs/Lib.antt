@@ -1,4 +1,2 @@
-pub mod Numbers
-pub mod Longer
-pub mod Reaching
+pub mod lemmas
 mod Rows

@@ -3,8 +3,8 @@ use Rattle.std.proofs.Common.{◌≡◌, ℕ, zero, suc, ◌<◌, true, false, L
 use Rattle.link_forest.specs.declared.link.Link.TheVariants.{End, To}
 use Rattle.link_forest.specs.declared.forest.Entry.{Entry}
 use Rattle.link_forest.specs.Forests.{Branch, end, fork, entry, node_id, tree_at, AddsNode, IsReached, itself, by_behind, by_ahead, AreReached}
-use Rattle.link_forest.proofs.Longer.{linked_none, added}
-use Rattle.link_forest.proofs.Reaching.{reached_same, reached_is_node}
+use Rattle.link_forest.proofs.lemmas.Longer.{linked_none, added}
+use Rattle.link_forest.proofs.lemmas.Reaching.{reached_same, reached_is_node}
 
 abbrev low : Entry ℕ
 low = entry 10 (End true) (End false)

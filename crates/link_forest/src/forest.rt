@@ -1,9 +1,11 @@
+//! Binary trees in one list: nodes are linked by number and never changed.
+
 ghost use Rattle.std.specs.Prelude.{◌≡◌, ◌+◌, ◌-◌, ◌<◌, ◌≤◌, ◌==◌, [], ◌++◌, ◌∷◌, length, take, IsOk, IfOk, OnOk, OnErr};
 
 use crate::link::{Link, NodeId};
+use plain_text::NoMemory;
 use std::alloc::Global;
 use std::marker::Model;
-use text_place::NoMemory;
 
 /// A node: its payload and where its two branches go on.
 #[derive(Drop)]

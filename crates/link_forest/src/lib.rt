@@ -1,4 +1,4 @@
-//! Forests of binary trees, whose nodes stand in one list and are linked by number.
+//! Forests of binary trees, with all nodes in one list and linked by number.
 #![tactic(auto)]
 
 mod forest;

@@ -3,20 +3,20 @@
 use crate::calls::put_fill;
 use case_lines::{CaseStop, Phrase, found, phrases_of, put, put_number, put_separated};
 use memo_core::Fill;
+use plain_text::NoMemory;
 use std::alloc::Global;
-use text_place::NoMemory;
 
 /// What a caller does.
 #[derive(Clone, Copy)]
 pub enum Act {
     /// Asks for a key, and ends its claim where the key was missed: by a piece of this weight, or by giving the claim
-    /// back where there is none. Between the claim and its end is a meeting of so many, or none where that is 0.
+    /// back where there is none. Between the claim and its end is a meeting of this number, or none where it is 0.
     Claim {
         key: u32,
         weight: Option<u64>,
         meeting: u64,
     },
-    /// Comes to a meeting of so many.
+    /// Comes to a meeting of the given number.
     Meet(u64),
     /// Asks how many hold on to the first piece that it brought.
     Holders,

@@ -11,6 +11,7 @@ use crate::told::{RunEnd, put_ended};
 use case_lines::{CaseStop, Phrase, found, put_runs};
 use flight_memo::{Claim, Claimed, Flight, FlightBlanks, FlightBooks, FlightLedgers, FlightShare};
 use memo_core::MemoCore;
+use plain_text::NoMemory;
 use std::alloc::Global;
 use std::marker::Brand;
 use std::sync::ledger::Ledger;
@@ -18,7 +19,6 @@ use std::sync::{Arc, Wait};
 use std::thread;
 use std::thread::Threads;
 use subtree_memo::{AskPolicy, Blanks, Memo, MemoLedger};
-use text_place::NoMemory;
 
 // What a caller was answered, and the first piece that it brought, if it did.
 #[derive(Drop)]
@@ -72,7 +72,7 @@ fn end_claim<B: FlightBooks + AskPolicy<u32>, R: Wait>(
     }
 }
 
-// Asks for a key, and ends its claim behind a meeting of so many.
+// Asks for a key, and ends its claim behind a meeting of the given number.
 fn ask<B: FlightBooks + AskPolicy<u32>, R: Wait>(
     rt: &R,
     alloc: Global,
@@ -266,7 +266,7 @@ fn two_callers<R: Threads + Wait + Sync>(
     )
 }
 
-// How often callers are run, and what is told of them.
+// How often callers are run, and the report on them.
 #[derive(Clone, Copy)]
 struct Setting {
     times: u32,
@@ -304,7 +304,7 @@ fn setting_of(phrases: &[Phrase]) -> Result<Setting, CaseStop> {
     Ok(setting)
 }
 
-// What is told of one run.
+// The report on one run.
 fn put_run<R: Threads + Wait + Sync>(
     rt: &R,
     alloc: Global,
@@ -317,7 +317,7 @@ fn put_run<R: Threads + Wait + Sync>(
     Ok(put_ended(alloc, out, &ended, setting.is_told, setting.has_log)?)
 }
 
-/// What is told of each run of two callers: one answer, where it is the same each time.
+/// The report on each run of two callers: one answer, where it is the same each time.
 pub fn put_callers<R: Threads + Wait + Sync>(
     rt: &R,
     alloc: Global,

@@ -6,9 +6,9 @@ use crate::pieces::{LastDigits, Piece, Pieces};
 use case_lines::{CaseStop, Interpreter, Phrase, follow_all, found, put, put_number, put_numbers};
 use memo_core::{DroppedEntries, Fill, MemoCore, Probe};
 use memo_shares::owned;
+use plain_text::NoMemory;
 use std::alloc::Global;
 use std::sync::Arc;
-use text_place::NoMemory;
 
 #[derive(Clone, Copy)]
 enum Word {

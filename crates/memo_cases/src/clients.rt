@@ -7,10 +7,10 @@ use crate::journals::put_items;
 use crate::limits::Limits;
 use crate::pieces::{LastDigits, Piece, Pieces};
 use case_lines::{CaseStop, Phrase, found, put, put_number};
+use plain_text::NoMemory;
 use share_core::{Act, Event, Stepped, Work, World, run};
 use std::alloc::Global;
 use std::sync::Arc;
-use text_place::NoMemory;
 
 // The key of the one node that each client has.
 const KEY: u32 = 1;

@@ -5,9 +5,9 @@ use crate::pieces::{LastDigits, Pieces};
 use case_lines::{CaseStop, Phrase, found, put, put_number, put_numbers, put_separated};
 use memo_core::{Did, JournalItem};
 use memo_shares::{JournalVerdict, check_journal};
+use plain_text::NoMemory;
 use std::alloc::Global;
 use std::sync::Arc;
-use text_place::NoMemory;
 
 // The most items that are checked.
 const MOST_ITEMS: usize = 1_000;

@@ -1,34 +1,34 @@
 //! Answers cases of the memo: calls, journals, clients step by step, and callers at the same time who claim keys.
 //!
-//! The form is that of `case_lines`. A case is a list of phrases, a comma and a space between two
-//! of them. The first phrase says what the case is of, with the budget of a memo and the share of each caller, which is 0
-//! where it isn't given. Keys are numbers, and two of them have one name where their last four digits are the same, as 1
-//! and 10001. Values are pieces, each with a weight.
+//! The form is that of `case_lines`. A case is a list of phrases, with a comma and a space between two of them. The first
+//! phrase gives the kind of the case, the budget of a memo and the share of each caller, which is 0 where it isn't given. Keys
+//! are numbers, and two of them have one name where their last four digits are the same, as 1 and 10001. Values are pieces,
+//! each with a weight.
 //!
-//! - `memo BUDGET SHARE` is one memo. `ask CALLER KEY` probes for a key: a hit, with the weight of the piece, or a miss.
-//!   `offer CALLER KEY WEIGHT` offers a piece for a key, and `offer_each FROM TO WEIGHT` one for each key of a range, for
-//!   caller 0; it tells how many were kept. `weight` asks what all entries weigh, `owned CALLER` what those of a caller
-//!   weigh, `evicted` how many were dropped so far, `dropped` for the keys, least first, of what was dropped since this was
-//!   last asked, and `journal` for the journal.
-//! - `journal BUDGET SHARE` asks whether items are the journal of a memo, or else which of them, counted from 0, is the
-//!   first that says something else. An item is `hit CALLER KEY`, `miss CALLER KEY`, `kept CALLER KEY WEIGHT EVICTED` or
-//!   `heavy CALLER KEY WEIGHT EVICTED`, and is written so too.
+//! - `memo BUDGET SHARE` is one memo. `ask CALLER KEY` probes for a key: a hit, with the weight of the piece, or a miss. `offer
+//!   CALLER KEY WEIGHT` offers a piece for a key, and `offer_each FROM TO WEIGHT` one for each key of a range, for caller 0; it
+//!   tells how many were kept. `weight` asks for the weight of all entries, `owned CALLER` for that of a caller's entries,
+//!   `evicted` for how many were dropped so far, `dropped` for the keys, least first, of what was dropped since the last such
+//!   question, and `journal` for the journal.
+//! - `journal BUDGET SHARE` asks whether items are the journal of a memo, or else which of them, counted from 0, is the first
+//!   that differs. An item is `hit CALLER KEY`, `miss CALLER KEY`, `kept CALLER KEY WEIGHT EVICTED` or `heavy CALLER KEY WEIGHT
+//!   EVICTED`, and is written so too.
 //! - `clients BUDGET SHARE` are two clients who share a memo, each with one command, of one node, which has key 1 for both.
-//!   `command CLIENT`, `probe CLIENT NODE`, `build CLIENT NODE`, `fill CLIENT NODE` and `reply CLIENT` are steps, each of
-//!   which is taken, or not ready. Then stand the replies of both clients, the journal, and whether one run of these steps
+//!   `command CLIENT`, `probe CLIENT NODE`, `build CLIENT NODE`, `fill CLIENT NODE` and `reply CLIENT` are steps, each of which
+//!   is taken, or is not ready. The answer has the replies of both clients, the journal, and whether one run of these steps
 //!   leaves the same.
 //! - `callers BUDGET SHARE` are two callers who ask for keys at the same time, each in a thread, and claim those that are
-//!   missed. Behind a stroke `|` stands what the first one does, and behind another one what the second one does. `finish
-//!   KEY WEIGHT` asks for a key, and finishes its claim by a piece where the key was missed; `finish_each FROM TO WEIGHT`
-//!   does so for each key of a range; `give_back KEY` gives its claim back. `meet N` comes to a meeting, and waits until N
-//!   have come; a number behind `finish KEY WEIGHT`, or `give_back KEY`, is that of a meeting between the claim and its
-//!   end. `holders` asks how many hold on to the first piece that the caller brought. `told` tells what each caller was
-//!   answered; `log` how claims began, by `began NUMBER CALLER KEY`, and how they ended, by `filled NUMBER` and `given back
-//!   NUMBER`. Then stand the tally, what the entries weigh, and how many items the journal has. `times N` runs all that so
-//!   often, each time with the same answer.
+//!   missed. A stroke `|` stands before what the first caller does, and another one before what the second caller does. `finish
+//!   KEY WEIGHT` asks for a key, and finishes its claim by a piece where the key was missed; `finish_each FROM TO WEIGHT` does
+//!   so for each key of a range; `give_back KEY` gives its claim back. `meet N` comes to a meeting, and waits until N have
+//!   come; a number behind `finish KEY WEIGHT`, or `give_back KEY`, is that of a meeting between the claim and its end.
+//!   `holders` asks how many hold on to the first piece that the caller brought. `told` writes what each caller was answered;
+//!   `log` writes how claims began, by `began NUMBER CALLER KEY`, and how they ended, by `filled NUMBER` and `given back
+//!   NUMBER`. The answer ends with the tally, the weight of the entries, and the number of items in the journal. `times N` runs
+//!   the case N times, and expects the same answer each time.
 //!
-//! A meeting to which too few come ends after some turns. Who waits for a claim that never ends waits until the program
-//! is stopped, as `rt ci` does after two minutes.
+//! A meeting to which too few come ends after some turns. A caller that waits for a claim that never ends waits until the
+//! program is stopped, as `rt ci` does after two minutes.
 #![tactic(auto)]
 
 mod acts;

@@ -20,7 +20,7 @@ impl Meeting {
         }
     }
 
-    /// Comes, and waits until so many have come; whether they came in time. Where so many is 0, nobody comes.
+    /// Comes, and waits until the given number have come; whether they came in time. Where the number is 0, nobody comes.
     pub fn meet(&self, count: u64) -> bool {
         if count == 0 {
             return true;

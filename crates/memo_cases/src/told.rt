@@ -1,12 +1,12 @@
-//! What is told of callers.
+//! The report on callers.
 
 use crate::acts::{Answer, put_answers};
 use crate::pieces::Pieces;
 use case_lines::{put, put_number, put_numbers, put_separated, put_tally};
 use flight_memo::{Claims, LogItem};
+use plain_text::NoMemory;
 use std::alloc::Global;
 use subtree_memo::Tally;
-use text_place::NoMemory;
 
 /// What became of two callers: what each was answered, what was counted, what the entries weigh, how many items the
 /// journal has, and how claims began and ended.
@@ -66,7 +66,7 @@ fn put_caller(
     put(out, b"; ")
 }
 
-/// What is told of callers, with their answers and the log where these are asked for.
+/// The report on callers, with their answers and the log where these are asked for.
 pub fn put_ended(
     alloc: Global,
     out: &mut Vec<u8>,

@@ -143,7 +143,7 @@ fourth_leaves = refl
 fifth_leaves : replay nat_eq own 100 40 [] (take 5 shared) ≡ owned_mark 2 4 30 ∷ owned_mark 1 3 30 ∷ owned_mark 0 1 40 ∷ []
 fifth_leaves = refl
 
--- without a share the last entries go, whoever owns them
+-- without a share the last entries go, regardless of their owner
 unshared_leaves : replay nat_eq own 100 0 [] (take 4 shared) ≡ owned_mark 2 4 30 ∷ owned_mark 1 3 30 ∷ owned_mark 1 2 30 ∷ []
 unshared_leaves = refl
 

@@ -1,3 +1,5 @@
+//! Entries that a fill pushed out of the memo, kept until the lock is free.
+
 ghost use Rattle.std.specs.Prelude.{◌≡◌, ◌<◌, length, slice_get, option_map, Some};
 ghost use Rattle.std.specs.Arc.{arc_value};
 

@@ -1,3 +1,5 @@
+//! What a memo is told of its keys and values: which values fit a key, what a value weighs, which keys are equal.
+
 ghost use Rattle.std.specs.Prelude.{◌≡◌, ℕ, Bool, true, List};
 
 /// How many bytes a name has.

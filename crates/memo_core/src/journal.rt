@@ -1,3 +1,5 @@
+//! The journal of a memo: one item for each call, with who called, the key and what came of it.
+
 ghost use Rattle.std.specs.Prelude.{◌≡◌, ℕ, ◌+◌, List, [], ◌∷◌, ◌++◌, is_some};
 ghost use Rattle.std.specs.Option.{unwrap_or};
 ghost use Rattle.std.specs.Arc.{arc_value};
@@ -37,7 +39,7 @@ pub fn probe_item<K>(caller: u32, key: Arc<K>, hit: bool) -> JournalItem<K>
     JournalItem { caller, key, did }
 }
 
-/// The journal's record of a fill that was kept and dropped so many entries, or was not kept.
+/// The journal's record of a fill that was kept and dropped the given number of entries, or was not kept.
 pub fn fill_item<K>(caller: u32, key: Arc<K>, weight: u64, offered: Option<u32>) -> JournalItem<K>
     ensures { record_of_item result ≡ journal_record caller (arc_value key)
         (FillAnswer weight (is_some offered) (unwrap_or offered 0)) }

@@ -1,6 +1,6 @@
-//! The sequential memo: entries with the most recent one in front, and a journal of what each call said.
+//! The sequential memo: its entries, the most recent first, and a journal of the answer to each call.
 //!
-//! It is seen as a list that is searched from its front; a cache of names stands behind it.
+//! Contracts see the memo as a list that is searched from its front; a cache of names implements it.
 #![tactic(auto)]
 
 mod dropped;

@@ -1,3 +1,5 @@
+//! The sequential memo: probe and fill within a budget, the least recently used entries going first.
+
 ghost use Rattle.std.specs.Prelude.{◌≡◌, true, false, option_map, is_some, if◌then◌else◌};
 ghost use Rattle.std.specs.Arc.{arc_value};
 ghost use Rattle.memo_core.specs.Fields.{value_in, is_hit};
@@ -9,11 +11,11 @@ use crate::owners::weight_in;
 use crate::plan::Limits;
 use crate::slots::{GoneSlots, Shelf, Slot, offer, touch, value_of};
 use lru::LruCache;
+use plain_text::NoMemory;
 use std::alloc::Global;
 use std::marker::Model;
 use std::mem;
 use std::sync::Arc;
-use text_place::NoMemory;
 
 /// What a probe found.
 #[derive(Drop)]

@@ -1,8 +1,10 @@
+//! What the entries of each owner weigh together.
+
 ghost use Rattle.std.specs.Prelude.{◌≡◌, ℕ, ◌+◌, ◌<◌, ◌≤◌, ◌^◌, IfOk, OnOk, IfSome, length, if◌then◌else◌, nat_eq};
 ghost use Rattle.memo_core.specs.Fields.{weight_at, place_at};
 
+use plain_text::NoMemory;
 use std::alloc::Global;
-use text_place::NoMemory;
 
 /// What an owner's entries weigh together.
 #[derive(Clone, Copy)]

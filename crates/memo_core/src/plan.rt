@@ -1,3 +1,5 @@
+//! Which entries a new one pushes out, decided before anything changes.
+
 ghost use Rattle.std.specs.Prelude.{◌≡◌, ℕ, ◌+◌, ◌<◌, ◌≤◌, not, IfOk, OnOk, true, false, if◌then◌else◌, nat_eq, [], None, MatchOption};
 ghost use Rattle.std.specs.Option.{option_map_or};
 ghost use Rattle.std.specs.Map.{remove_entry};
@@ -8,8 +10,8 @@ ghost use Rattle.memo_core.specs.Plans.{slot_header, IsShelf, IsPlan, IsWithout,
 use crate::fit::Name;
 use crate::owners::{OwnerWeight, add_to, copy_of, take_from, weight_in};
 use crate::slots::{ENTRIES_MAX, Shelf, Slot, Slots};
+use plain_text::NoMemory;
 use std::alloc::Global;
-use text_place::NoMemory;
 
 /// What a memo keeps to: what all entries weigh at most, and what each owner's entries weigh together
 /// and are safe from other callers.
@@ -26,7 +28,7 @@ pub struct Plan {
     pub names: Vec<Name>,
     /// What is left weighs so much, with the new slot.
     pub total: u128,
-    /// So many are left, with the new slot.
+    /// The given number of entries are left, with the new slot.
     pub count: usize,
     /// What each owner's slots weigh of what is left, without the new one.
     pub owners: Vec<OwnerWeight>,

@@ -1,3 +1,5 @@
+//! The cache behind the memo: slots by name, the most recently used first.
+
 ghost use Rattle.std.specs.Prelude.{◌≡◌, true, false, ◌+◌, ◌≤◌, ◌<◌, option_map, length, ◌∷◌, ◌++◌};
 ghost use Rattle.std.specs.Prelude.{IfOk, OnOk, OnErr, if◌then◌else◌, is_some, vec_len, vec_capacity};
 ghost use Rattle.std.specs.Arc.{arc_value};
@@ -14,9 +16,9 @@ use crate::fit::{Fit, Name};
 use crate::owners::OwnerWeight;
 use crate::plan::{Limits, plan_for};
 use lru::LruCache;
+use plain_text::NoMemory;
 use std::alloc::Global;
 use std::sync::Arc;
-use text_place::NoMemory;
 
 /// What the cache has at a name.
 #[derive(Drop)]

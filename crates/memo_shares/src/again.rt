@@ -1,3 +1,5 @@
+//! Repeats one call of a journal on a memo, and tells whether it has the same outcome.
+
 ghost use Rattle.std.specs.Prelude.{◌≡◌, ◌≢◌, [], ◌∷◌, ◌++◌, true, false, IfOk, OnOk};
 ghost use Rattle.std.specs.Arc.{arc_value};
 ghost use Rattle.memo_core.specs.Memo.{Answer, journal_record, memo_answer, replay};
@@ -5,9 +7,9 @@ ghost use Rattle.memo_core.specs.Fields.{answer_of, record_of_item};
 ghost use Rattle.memo_shares.specs.Verdicts.{AreWeights, IsSameCall};
 
 use memo_core::{Did, Fill, Fit, JournalItem, MemoCore, Namer};
+use plain_text::NoMemory;
 use std::alloc::Global;
 use std::sync::Arc;
-use text_place::NoMemory;
 
 /// Does the call of an item once more. Answers whether it says what the item says.
 pub fn repeats<F: Fit<Value = u64>, N: Namer<F::Key>>(

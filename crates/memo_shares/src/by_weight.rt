@@ -1,3 +1,5 @@
+//! The memo without its values: each value is its weight alone.
+
 ghost use Rattle.std.specs.Prelude.{◌≡◌};
 ghost use Rattle.std.proofs.Common.{rules};
 

@@ -1,4 +1,4 @@
-//! What a caller's entries in a memo weigh, and whether a journal is one of the sequential memo.
+//! The weight of a caller's entries in a memo, and whether a journal is one of the sequential memo.
 #![tactic(auto)]
 
 mod again;

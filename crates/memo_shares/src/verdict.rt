@@ -1,3 +1,5 @@
+//! The judge of journals: whether a sequential memo could have written one.
+
 ghost use Rattle.std.specs.Prelude.{◌≡◌, ◌<◌, ◌^◌, [], length, IfOk};
 ghost use Rattle.memo_core.specs.Memo.{owner_weight, KeepsShares};
 ghost use Rattle.memo_core.specs.Views.{header_in};
@@ -7,8 +9,8 @@ ghost use Rattle.memo_shares.specs.Verdicts.{AreWeights, IsVerdict};
 use crate::again::repeats;
 use crate::by_weight::{ByName, ByWeight};
 use memo_core::{Fit, JournalItem, MemoCore, Namer};
+use plain_text::NoMemory;
 use std::alloc::Global;
-use text_place::NoMemory;
 
 /// Whether a journal is one of the sequential memo.
 #[derive(Clone, Copy, PartialEq, Eq)]

@@ -6,9 +6,9 @@ use Rattle.std.proofs.lemmas.Nat.{mul-le}
 use Rattle.plane_predicate.specs.declared.unit.Unit.{Unit as LengthUnit}
 use Rattle.plane_predicate.specs.Space.{Coordinates, IsPointTimes, IsInClosedWorld}
 use Rattle.plane_predicate.specs.InUnits.{in_steps, in_units}
-use Rattle.plane_predicate.proofs.Signs.{pos_cancel, pos_pos}
-use Rattle.off_text.proofs.Scaled.{AreOnePoint, printed_is}
-use Rattle.off_text.proofs.Factors.{size_above}
+use Rattle.plane_predicate.proofs.lemmas.Signs.{pos_cancel, pos_pos}
+use Rattle.off_text.proofs.lemmas.Scaled.{AreOnePoint, printed_is}
+use Rattle.off_text.proofs.lemmas.Factors.{size_above}
 
 cancel : (k a b : ℕ) → 0 < k → k * a ≤ k * b → a ≤ b
 cancel k a b h l = le_of_mul-le-mul_left l h

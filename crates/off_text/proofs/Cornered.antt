@@ -7,11 +7,11 @@ use Rattle.plane_predicate.specs.declared.unit.Unit.{Unit as LengthUnit}
 use Rattle.plane_predicate.specs.Space.{Coordinates, IsPointTimes, HasNoCommonFactor, origin}
 use Rattle.plane_predicate.specs.InUnits.{in_units}
 use Rattle.plane_predicate.specs.Units.{grid_steps_per_unit}
-use Rattle.plane_predicate.proofs.InUnits.{steps_above}
-use Rattle.plane_predicate.proofs.Signs.{pos_cancel, pos_pos}
+use Rattle.plane_predicate.proofs.lemmas.InUnits.{steps_above}
+use Rattle.plane_predicate.proofs.lemmas.Signs.{pos_cancel, pos_pos}
 use Rattle.plane_polygon.specs.Polygons.{Outline, edge_count, corner, IsPolygon, AreReducedFrom}
 use Rattle.plane_polygon.specs.Parts.{corners}
-use Rattle.plane_polygon.proofs.Rounds.{step, step_is, step_below, at_most}
+use Rattle.plane_polygon.proofs.lemmas.Rounds.{step, step_is, step_below, at_most}
 use Rattle.closed_surface.specs.Printing.{AreInUnits, IsRoundOf}
 use Rattle.off_text.specs.Reading.{IsPrintedVertex}
 use Rattle.off_text.specs.Texts.{comes_before, corners_in_units, place_of_least, from_least}

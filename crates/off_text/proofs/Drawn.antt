@@ -6,7 +6,7 @@ use Rattle.plane_predicate.specs.declared.unit.Unit.{Unit as LengthUnit}
 use Rattle.plane_predicate.specs.Space.{Coefficients, Coordinates, value, orientation_seen_from, IsPlane, IsPointTimes, origin, has_same_numbers}
 use Rattle.plane_predicate.specs.InUnits.{in_steps, in_units}
 use Rattle.plane_polygon.specs.Polygons.{Outline, edge_count, IsPolygon, IsStrictlyWithin, corner as corner_of}
-use Rattle.plane_polygon.proofs.Rounds.{step, step_below}
+use Rattle.plane_polygon.proofs.lemmas.Rounds.{step, step_below}
 use Rattle.plane_polygon.specs.Parts.{corners}
 use Rattle.closed_surface.specs.Closed.{corners_at}
 use Rattle.closed_surface.specs.Printing.{IsRoundOf}
@@ -19,9 +19,9 @@ use Rattle.off_text.proofs.Numbers.{Known, AllKnown, place_below, known_at, grow
 use Rattle.off_text.proofs.Distinct.{grown_from_none}
 use Rattle.off_text.proofs.Gathered.{joined, known_parts}
 use Rattle.off_text.proofs.OwnVertices.{own_vertices}
-use Rattle.off_text.proofs.Scaled.{AreOnePoint, printed_is}
+use Rattle.off_text.proofs.lemmas.Scaled.{AreOnePoint, printed_is}
 use Rattle.off_text.proofs.Cornered.{ArePrinted, printed, found_are_vertices, All-from_least}
-use Rattle.off_text.proofs.Rounded.{points_on, points_left, left_from_within, within_from_left, one_plane, below_three, not_two}
+use Rattle.off_text.proofs.lemmas.Rounded.{points_on, points_left, left_from_within, within_from_left, one_plane, below_three, not_two}
 use Rattle.plane_predicate.specs.Indices.{index_after}
 
 -- ---- what holds of all items

@@ -10,25 +10,25 @@ use Rattle.csg_tree.specs.HalfSpaceTrees.{Tree}
 use Rattle.csg_tree.specs.FacePlanes.{IsFacePlane, IsOnOneFacePlane, sides_just_behind, sides_just_ahead, is_boundary_at}
 use Rattle.csg_tree.specs.ProperTrees.{IsProper}
 use Rattle.bsp_tree.specs.Cells.{world_box, IsNodePlaneOf}
-use Rattle.bsp_tree.proofs.Worlds.{open_world}
+use Rattle.bsp_tree.proofs.lemmas.Worlds.{open_world}
 use Rattle.bsp_boolean.specs.LeafSolids.{IsSolidOf}
 use Rattle.bsp_boolean.specs.Solids.{solid_of}
-use Rattle.bsp_boolean.proofs.Solids.{tree_is_solid}
+use Rattle.bsp_boolean.proofs.lemmas.Solids.{tree_is_solid}
 use Rattle.facet_cut.specs.Facets.{facets_of}
 use Rattle.facet_cut.specs.Sides.{walk_by, IsOnOneNodePlane}
-use Rattle.facet_cut.proofs.FacetPolygons.{all_facets, world_corners}
-use Rattle.facet_cut.proofs.Boundaries.{facets_bound}
+use Rattle.facet_cut.proofs.lemmas.FacetPolygons.{all_facets, world_corners}
+use Rattle.facet_cut.proofs.lemmas.Boundaries.{facets_bound}
 use Rattle.plane_polygon.specs.Parts.{corners}
 use Rattle.closed_surface.specs.Closed.{corners_at}
 use Rattle.closed_surface.specs.Printing.{AreRoundsOf}
-use Rattle.closed_surface.proofs.Printing.{printed_closed}
-use Rattle.closed_surface.proofs.Closing.{facets_closed}
+use Rattle.closed_surface.proofs.lemmas.Printing.{printed_closed}
+use Rattle.closed_surface.proofs.lemmas.Closing.{facets_closed}
 use Rattle.off_text.specs.Boundaries.{face_corner, FaceCovers, OneExactlyWhere}
 use Rattle.off_text.specs.Prints.{IsPrintedFaceOf, ArePrintedFacesOf, Prints}
 use Rattle.off_text.specs.Bounding.{IsBoundaryFace, IsBoundary}
 use Rattle.off_text.proofs.Covered.{HasPlane, covering_of, as_facets}
 use Rattle.off_text.proofs.Boxed.{boxed as in_world_reduced}
-use Rattle.off_text.proofs.BesideFaces.{BesideLeaves, beside_leaves, face_plane_is_plane}
+use Rattle.off_text.proofs.lemmas.BesideFaces.{BesideLeaves, beside_leaves, face_plane_is_plane}
 
 -- the facets of a formula's solid
 record IsFacetOfFormula (f : Tree) (s : Outline) : Type 0 where

@@ -9,7 +9,7 @@ use Rattle.std.proofs.Math.Nat.{mul-div_cancel', dvd-mul_right, dvd-mul_left_of_
 use Prim.Native.Nat.{◌∣◌}
 use Rattle.plane_predicate.specs.declared.unit.Unit.TheVariants.{Half}
 use Rattle.plane_predicate.specs.Space.{Coordinates, most_direction, IsPoint}
-use Rattle.plane_predicate.proofs.IntegerRing.{sums, one_mul}
+use Rattle.plane_predicate.proofs.lemmas.IntegerRing.{sums, one_mul}
 use Rattle.off_text.specs.Numbering.{is_even, HasVertexSizes, IsVertexAt}
 
 -- ---- even numbers

@@ -6,7 +6,7 @@ use Rattle.std.proofs.lemmas.List.Elements.{All-from_get_or}
 use Rattle.std.proofs.lemmas.List.Folds.{list_any_at, list_any_none}
 use Rattle.std.proofs.lemmas.List.Sums.{position_or_len_is}
 use Rattle.plane_predicate.specs.Space.{Coordinates, origin}
-use Rattle.plane_polygon.proofs.Rounds.{at_most}
+use Rattle.plane_polygon.proofs.lemmas.Rounds.{at_most}
 use Rattle.off_text.specs.Texts.{comes_before, is_least, place_of_least}
 use Rattle.off_text.proofs.Order.{before-itself, before-chain, before-others}
 

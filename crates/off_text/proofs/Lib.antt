@@ -6,8 +6,7 @@ pub mod Numbers
 pub mod Distinct
 pub mod Gathered
 pub mod Pieces
-pub mod Scaled
-pub mod Rounded
+pub mod lemmas
 pub mod Cornered
 pub mod Halves
 pub mod Printed
@@ -17,11 +16,7 @@ pub mod Cut
 pub mod Together
 pub mod Drawn
 pub mod Covered
-pub mod Unique
 pub mod OwnVertices
 pub mod SomeCorners
 pub mod Boxed
-pub mod BesideFaces
 pub mod FacesOfFacets
-pub mod Bounds
-pub mod Factors

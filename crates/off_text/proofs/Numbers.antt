@@ -9,7 +9,7 @@ use Rattle.std.proofs.lemmas.List.Folds.{list_any-append, position_or_len_push}
 use Rattle.std.proofs.lemmas.List.Sums.{prefix_len-le-length, passes_at_first}
 use Rattle.indexmap.specs.IndexSet.{insert_key}
 use Rattle.plane_predicate.specs.Space.{Coordinates, origin, has_same_numbers}
-use Rattle.plane_predicate.proofs.Opposites.{same_point as equal_points}
+use Rattle.plane_predicate.proofs.lemmas.Opposites.{same_point as equal_points}
 use Rattle.off_text.specs.Texts.{vertex_number}
 use Rattle.off_text.specs.Numbering.{with_points}
 use Rattle.off_text.specs.FaceNumbers.{vertex_numbers}

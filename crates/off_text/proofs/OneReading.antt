@@ -1,10 +1,10 @@
 -- A 4OFF text has one list of vertices and one list of faces.
 use Rattle.std.proofs.Common.{◌≡◌, ℕ, suc, ◌<◌, ◌≤◌, IsFalse, List, [], ◌∷◌, ◌++◌, length, get_or, flat_map, refl, sym, ap, ap₂, ◌∙◌, arith, append_assoc, append-nil, codes, ℤ, pos, negsuc}
 use Rattle.std.proofs.lemmas.List.{append_cancel_left}
-use Rattle.text_place.specs.Decimals.{numeral, signed_numeral, begins_with_digit}
-use Rattle.text_place.proofs.Numerals.{one_numeral, numeral_byte, numeral_nonempty}
+use Rattle.plain_text.specs.Decimals.{numeral, signed_numeral, begins_with_digit}
+use Rattle.plain_text.proofs.lemmas.Numerals.{one_numeral, numeral_byte, numeral_nonempty}
 use Rattle.plane_predicate.specs.Space.{Coordinates}
-use Rattle.plane_predicate.proofs.Opposites.{same_point}
+use Rattle.plane_predicate.proofs.lemmas.Opposites.{same_point}
 use Rattle.off_text.specs.Reading.{vertex_line, face_line, off_text}
 
 digits_are_no_sign : (ds x y : List ℕ) → 0 < length ds → 48 ≤ get_or ds 0 0 → ds ++ x ≡ 45 ∷ y → ⊥

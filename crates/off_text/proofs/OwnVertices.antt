@@ -7,15 +7,15 @@ use Rattle.std.proofs.lemmas.Bool.{false≢true, and_parts, or_left}
 use Rattle.std.proofs.lemmas.Bool.Decides.{Decides-int_eq}
 use Rattle.std.proofs.lemmas.List.{map-append}
 use Rattle.plane_predicate.specs.Space.{Coordinates, origin, has_same_numbers}
-use Rattle.plane_predicate.proofs.IntegerRing.{sums, mul_comm_ℤ}
+use Rattle.plane_predicate.proofs.lemmas.IntegerRing.{sums, mul_comm_ℤ}
 use Rattle.closed_surface.specs.Ways.{displacement, is_same_point_of_space}
-use Rattle.closed_surface.proofs.Each.{Each, each_weaker, Member, each_from_all}
+use Rattle.closed_surface.proofs.lemmas.Each.{Each, each_weaker, Member, each_from_all}
 use Rattle.off_text.specs.Reading.{IsPrintedVertex}
 use Rattle.off_text.specs.Vertices.{AreVerticesOf}
 use Rattle.off_text.specs.Texts.{distinct_points, vertex_number, printed_corners, vertices_of, numbered_faces}
 use Rattle.off_text.proofs.Numbers.{Known, same_itself, place_below, known_at}
 use Rattle.off_text.proofs.Gathered.{joined}
-use Rattle.off_text.proofs.Unique.{one_point}
+use Rattle.off_text.proofs.lemmas.Unique.{one_point}
 
 -- ---- two vertices at one place have the same numbers
 no_way : (x : ℤ) → int_eq x (pos 0) ≡ true → x ≡ pos 0

@@ -2,12 +2,12 @@
 use Rattle.std.proofs.Common.{◌≡◌, ℕ, ◌≤◌, List, [], ◌∷◌, ◌++◌, map, length, drop, sym, ap, ap₂, ◌∙◌, append_assoc, append-nil, flat_map, codes}
 use Rattle.std.proofs.lemmas.List.{drop_all, length-map}
 use Rattle.std.proofs.lemmas.List.Folds.{flat_map-map}
-use Rattle.text_place.specs.Decimals.{numeral, signed_numeral}
+use Rattle.plain_text.specs.Decimals.{numeral, signed_numeral}
 use Rattle.plane_predicate.specs.Space.{Coordinates}
 use Rattle.off_text.specs.Reading.{vertex_line, face_line, off_text}
 use Rattle.off_text.specs.Numbering.{number_word}
 use Rattle.off_text.proofs.OneReading.{off_text-counts}
-use Rattle.text_place.specs.Separators.{space}
+use Rattle.plain_text.specs.Separators.{space}
 
 -- what was written of a list, once none of it is left
 pub all_written : {A : Type 0} (f : A → List ℕ) (xs : List A) (i : ℕ) (out whole : List ℕ) → length xs ≤ i → out ++ flat_map f (drop i xs) ≡ whole → out ≡ whole

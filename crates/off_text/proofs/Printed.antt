@@ -4,8 +4,8 @@ use Rattle.plane_predicate.specs.declared.unit.Unit.{Unit as LengthUnit}
 use Rattle.plane_predicate.specs.Space.{Coordinates, IsPointTimes}
 use Rattle.plane_predicate.specs.InUnits.{in_units}
 use Rattle.plane_predicate.specs.Units.{grid_steps_per_unit}
-use Rattle.plane_predicate.proofs.IntegerRing.{mul_assoc_ℤ, mul_comm_ℤ}
-use Rattle.plane_predicate.proofs.Signs.{pos_pos}
+use Rattle.plane_predicate.proofs.lemmas.IntegerRing.{mul_assoc_ℤ, mul_comm_ℤ}
+use Rattle.plane_predicate.proofs.lemmas.Signs.{pos_pos}
 
 -- a corner's multiple in units, and then reduced
 weight_times : (k l m w u v : ℤ) → w ≡ l *ℤ u → k *ℤ u ≡ m *ℤ v → k *ℤ w ≡ (l *ℤ m) *ℤ v

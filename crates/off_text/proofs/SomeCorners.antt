@@ -8,16 +8,16 @@ use Rattle.plane_predicate.specs.declared.unit.Unit.{Unit as LengthUnit}
 use Rattle.plane_predicate.specs.Space.{Coordinates, IsCommonFactor, IsPointTimes, HasNoCommonFactor}
 use Rattle.plane_predicate.specs.InUnits.{in_units}
 use Rattle.plane_predicate.specs.Units.{grid_steps_per_unit}
-use Rattle.plane_predicate.proofs.InUnits.{steps_above}
-use Rattle.plane_predicate.proofs.IntegerRing.{sums}
-use Rattle.plane_predicate.proofs.Signs.{pos_pos}
-use Rattle.plane_predicate.proofs.Coprime.{euclid}
-use Rattle.plane_predicate.proofs.Divisions.{common_of, quotient, quotient_negative, quotients_of, reduced_is_same}
+use Rattle.plane_predicate.proofs.lemmas.InUnits.{steps_above}
+use Rattle.plane_predicate.proofs.lemmas.IntegerRing.{sums}
+use Rattle.plane_predicate.proofs.lemmas.Signs.{pos_pos}
+use Rattle.plane_predicate.proofs.lemmas.Coprime.{euclid}
+use Rattle.plane_predicate.proofs.lemmas.Divisions.{common_of, quotient, quotient_negative, quotients_of, reduced_is_same}
 use Rattle.plane_polygon.specs.Polygons.{Outline, edge_count, corner, IsPolygon, AreReducedFrom}
 use Rattle.plane_predicate.specs.Indices.{indices_below}
-use Rattle.plane_polygon.proofs.CornerSides.{reduced_step}
+use Rattle.plane_polygon.proofs.lemmas.CornerSides.{reduced_step}
 use Rattle.off_text.specs.Texts.{corners_in_units, AreCornersOf}
-use Rattle.off_text.proofs.Factors.{size_above}
+use Rattle.off_text.proofs.lemmas.Factors.{size_above}
 
 -- two numbers have a greatest common divisor, and so have four
 two_factor : (a b : ℕ) → (g : ℕ) × IsGcd a b g

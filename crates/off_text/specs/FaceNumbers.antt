@@ -38,7 +38,8 @@ pub record HaveNumbers (unit : LengthUnit) (polygons : List Outline) (vertices :
 abbrev pub new_number : List ℕ → ℕ → ℕ
 new_number names i = slice_index_or names i i
 
--- the lines of faces that have so many corners, one face after another, by these numbers of vertices with these names
+-- the lines of faces that have the given number of corners, one face after another, by these numbers of vertices with these
+-- names
 abbrev pub lines_from : List ℕ → List ℕ → List ℕ → List ℕ
 lines_from names [] numbers = []
 lines_from names (count ∷ sides) numbers = face_line (map (new_number names) (take count numbers)) ++ lines_from names sides (drop count numbers)

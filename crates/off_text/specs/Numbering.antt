@@ -6,10 +6,10 @@ use Rattle.plane_predicate.specs.declared.unit.Unit.{Unit as LengthUnit}
 use Rattle.plane_predicate.specs.Space.{Coordinates, IsPointTimes, HasNoCommonFactor, has_same_numbers}
 use Rattle.plane_predicate.specs.InUnits.{in_units}
 use Rattle.plane_polygon.specs.Polygons.{Outline, AreReducedFrom, IsPolygon}
-use Rattle.text_place.specs.Decimals.{numeral}
+use Rattle.plain_text.specs.Decimals.{numeral}
 use Rattle.off_text.specs.Reading.{face_line}
 use Rattle.off_text.specs.Texts.{corners_in_units, from_least, vertex_number, AreCornersOf, vertices_of, numbered_faces}
-use Rattle.text_place.specs.Separators.{space}
+use Rattle.plain_text.specs.Separators.{space}
 
 -- the numbers of a vertex of the program, which are written in decimal digits: each fits 128 bits with its sign changed
 pub record HasVertexSizes (p : Coordinates) : Type 0 where

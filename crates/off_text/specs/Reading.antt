@@ -1,9 +1,9 @@
 -- Texts in Geomview's 4OFF (Geomview manual, "OFF Files"), in one spelling.
 use Rattle.std.specs.Prelude.{◌≡◌, ℕ, ◌≤◌, ◌<◌, List, ◌++◌, flat_map, length, pos, ◌<ℤ◌, unsigned_abs, All, codes}
 use Prim.Native.Nat.{◌∣◌}
-use Rattle.text_place.specs.Decimals.{numeral, signed_numeral}
+use Rattle.plain_text.specs.Decimals.{numeral, signed_numeral}
 use Rattle.plane_predicate.specs.Space.{Coordinates}
-use Rattle.text_place.specs.Separators.{space, newline}
+use Rattle.plain_text.specs.Separators.{space, newline}
 
 -- a printed vertex: the last number is above 0, and the four have no common factor above 1
 pub record IsPrintedVertex (p : Coordinates) : Type 0 where

@@ -8,10 +8,10 @@ ghost use Rattle.off_text.specs.Texts.{corners_in_units};
 
 use crate::lowest_terms;
 use crate::vertex::Vertex;
+use plain_text::NoMemory;
 use plane_polygon::{Polygon, meeting_of, next_index, polygons_keep_their_form};
 use plane_predicate::{Plane, Unit};
 use std::alloc::AllocError;
-use text_place::NoMemory;
 
 /// Puts the corners of a polygon, in units and reduced, in the place of those that were there.
 pub fn put_corners(corners: &mut Vec<Vertex>, polygon: &Polygon, unit: Unit) -> Result<(), NoMemory>

@@ -6,7 +6,7 @@ ghost use Rattle.off_text.specs.FaceNumbers.{vertex_numbers};
 
 use crate::vertex::Vertex;
 use indexmap::IndexSet;
-use text_place::NoMemory;
+use plain_text::NoMemory;
 
 /// Faces by the numbers of their vertices, in four bytes for each corner and four for each face.
 #[derive(Drop)]
@@ -17,7 +17,8 @@ pub struct FaceNumbers {
     pub numbers: Vec<u32>,
 }
 
-// Appends a number. One above 32 bits counts as want of memory; none comes, since the corners of a text are counted before.
+// Appends a number. One above 32 bits counts as running out of memory; none comes, since the corners of a text are counted
+// before.
 fn push_number(numbers: &mut Vec<u32>, number: usize) -> Result<(), NoMemory>
     ensures { OnOk result (numbers.new.items ≡ numbers.old.items ++ number ∷ []) }
 {

@@ -8,9 +8,9 @@ use crate::numbering::{FaceNumbers, push_face};
 use crate::vertex::{Vertex, least_corner};
 use facet_cut::Facet;
 use indexmap::IndexSet;
+use plain_text::NoMemory;
 use plane_predicate::Unit;
 use std::alloc::Global;
-use text_place::NoMemory;
 
 /// The vertices of facets, and their faces.
 #[derive(Drop)]

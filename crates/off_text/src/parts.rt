@@ -1,7 +1,7 @@
 //! Facets that several workers number and write, a part each.
 
 ghost use Rattle.std.specs.Prelude.{◌≡◌, ◌++◌, ◌∷◌, [], ◌<◌, codes, flat_map, map, length, OnOk, IfOk, Ok};
-ghost use Rattle.text_place.specs.Decimals.{numeral};
+ghost use Rattle.plain_text.specs.Decimals.{numeral};
 ghost use Rattle.off_text.specs.Reading.{vertex_line};
 ghost use Rattle.off_text.specs.Numbering.{with_points, HaveLines};
 ghost use Rattle.off_text.specs.FaceNumbers.{HaveNumbers};
@@ -13,17 +13,17 @@ use crate::vertex::Vertex;
 use crate::writing::{first_lines, push_lines, push_vertices};
 use facet_cut::Facet;
 use indexmap::IndexSet;
+use plain_text::NoMemory;
 use plane_predicate::Unit;
 use std::alloc::Global;
 use std::thread;
 use std::thread::Threads;
-use text_place::NoMemory;
 
 // The fewest facets or vertices of a part. Starting and joining a thread takes some 25 microseconds, and the
 // text of a facet one or two.
 const FEWEST: usize = 128;
 
-/// How many of so many facets or vertices make a part, so that there are at most as many parts as workers.
+/// How many of the given number of facets or vertices make a part, so that there are at most as many parts as workers.
 pub fn part_length(count: usize, workers: u64) -> usize
     ensures { 0 < result }
 {
@@ -134,7 +134,7 @@ fn part_lines(alloc: Global, parts: &[NamedPart]) -> Result<Vec<u8>, NoMemory>
     Ok(lines)
 }
 
-// The lines of vertices, in pieces of so many vertices each.
+// The lines of vertices, in pieces of the given number of vertices each.
 fn vertices_by<R: Threads + Sync>(
     rt: &R,
     alloc: Global,

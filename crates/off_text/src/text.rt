@@ -14,10 +14,10 @@ use crate::part::number_facets;
 use crate::parts::{number_facets_by, part_length, write_text_by};
 use crate::writing::write_text;
 use facet_cut::Facet;
+use plain_text::NoMemory;
 use plane_predicate::Unit;
 use std::alloc::Global;
 use std::thread::Threads;
-use text_place::NoMemory;
 
 // The most corners of all faces together.
 const CORNERS: usize = 200_000;
@@ -91,7 +91,7 @@ pub fn off_bytes(alloc: Global, facets: &[Facet], unit: Unit) -> Result<Vec<u8>,
     Ok(write_text(alloc, part.vertices.as_slice(), facets.len(), &part.faces)?)
 }
 
-/// The text that `off_bytes` gives, and its limits, by at most so many workers. Each of them numbers
+/// The text that `off_bytes` gives, and its limits, by at most the given number of workers. Each of them numbers
 /// the corners of a part of the facets by itself, and once the vertices of all parts are put together,
 /// one part after another, each writes lines. Few facets are one worker's.
 pub fn off_bytes_by<R: Threads + Sync>(

@@ -1,14 +1,14 @@
 //! The lines of a 4OFF text.
 
 ghost use Rattle.std.specs.Prelude.{◌≡◌, ◌++◌, ◌∷◌, [], codes, map, flat_map, length, OnOk, IfOk};
-ghost use Rattle.text_place.specs.Decimals.{numeral};
+ghost use Rattle.plain_text.specs.Decimals.{numeral};
 ghost use Rattle.off_text.specs.Reading.{vertex_line, face_line};
 ghost use Rattle.off_text.specs.FaceNumbers.{new_number, lines_of};
 
 use crate::numbering::FaceNumbers;
 use crate::vertex::Vertex;
+use plain_text::{NoMemory, push_decimal};
 use std::alloc::Global;
-use text_place::{NoMemory, push_decimal};
 
 // Appends the decimal digits of a count or an index.
 fn push_count(alloc: Global, out: &mut Vec<u8>, count: usize) -> Result<(), NoMemory>
@@ -98,7 +98,7 @@ pub fn first_lines(alloc: Global, vertices: usize, faces: usize) -> Result<Vec<u
     Ok(text)
 }
 
-/// The text of these vertices and of these faces, of which there are so many.
+/// The text of these vertices and of these faces, of which the number is given.
 pub fn write_text(
     alloc: Global,
     vertices: &[Vertex],

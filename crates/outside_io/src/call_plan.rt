@@ -1,3 +1,5 @@
+//! Which calls of a source or a sink in memory are to fail.
+
 ghost use Rattle.std.specs.Prelude.{◌≡◌, ◌↔◌, IsTrue};
 ghost use Rattle.outside_io.specs.Counts.{next_count, IsNextFailing};
 

@@ -1,6 +1,5 @@
-//! The outside as the server sees it: a source of bytes and a sink of bytes that count their
-//! faults, kinds of both over memory and over std's readers and writers, and the whole input read
-//! and a whole output written.
+//! Input and output as the server sees them: a source and a sink of bytes that count their faults, both over memory and over
+//! std's readers and writers, and functions that read a whole input and write a whole output.
 #![tactic(auto)]
 
 mod adapters;

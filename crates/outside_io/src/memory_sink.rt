@@ -1,3 +1,5 @@
+//! A sink in memory, for tests: it takes bytes in pieces and fails at chosen calls.
+
 ghost use Rattle.std.specs.Prelude.{◌≡◌, ◌<◌, ◌≤◌, ◌↔◌, [], ◌++◌, length, take, Some, IsErr, IfOk, OnErr};
 ghost use Rattle.std.specs.Io.KnownBytes.{WriteAppends};
 ghost use Rattle.outside_io.specs.Counts.{next_count, HasCause};
@@ -5,9 +7,9 @@ ghost use Rattle.outside_io.specs.MemoryOutput.{IsRefusing, write_count};
 
 use crate::call_plan::CallPlan;
 use crate::traits::{Failed, Sink};
+use plain_text::NoMemory;
 use std::alloc::Global;
 use std::marker::Model;
-use text_place::NoMemory;
 
 /// A sink that holds bytes in memory, up to a given room, which takes them in pieces and fails at
 /// calls that were named.

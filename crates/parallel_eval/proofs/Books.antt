@@ -76,7 +76,7 @@ answered_at a b m n s t e h = record {
   offered = h.offered;
 }
 
--- so many joins drop at most so many fills, and make a count at most so much greater
+-- a number of joins drops at most that number of fills, and makes a count greater by at most that number
 pub few_dropped : (a b m n : ℕ) (s t : ShareView) → AreBegun a b s t m n → t.dropped + a ≤ s.dropped + b
 few_dropped a b m n s t h = omega (arith, h.hits, h.kept, h.heavy, h.probes, h.offered)
 

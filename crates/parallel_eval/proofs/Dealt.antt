@@ -2,7 +2,7 @@
 use Rattle.std.proofs.Common.{◌≡◌, ℕ, suc, ◌+◌, ◌-◌, ◌*◌, ◌^◌, ◌≤◌, ◌<◌, List, [], ◌∷◌, ◌++◌, All, length, ap, sym, subst, ◌∙◌, arith}
 use Rattle.std.proofs.Math.Nat.{suc-mul}
 use Rattle.std.proofs.lemmas.List.Elements.{All-head, All-tail, All-push}
-use Rattle.pair_work.specs.Pairs.{EachReady}
+use Rattle.parallel_zip.specs.Pairs.{EachReady}
 use Rattle.subtree_memo.specs.Shares.{ShareView, fresh_share}
 use Rattle.subtree_memo.specs.declared.ledgers.MemoLedger.{Ghosts}
 use Rattle.parallel_eval.specs.declared.lane.Lane.{Lane}
@@ -92,7 +92,7 @@ answered_with_parts a b m n k s t h = record {
 left_of : (next a b least more x y last : ℕ) → a ≡ b + least → more + y ≡ x → next + a + x ≡ last → next + least + more + b + y ≡ last
 left_of next a b least more x y last e f all = omega arith
 
--- what is left of some nodes behind a lane that has so many, or one more
+-- what is left of some nodes behind a lane that has the given number, or one more
 pub left_for : (next count index least longer more last : ℕ) → index < count → more + (longer - (index + 1)) ≡ longer - index →
     next + (count - index) * least + (longer - index) ≡ last → next + least + more + (count - (index + 1)) * least + (longer - (index + 1)) ≡ last
 left_for next count index least longer more last room one all =
@@ -102,7 +102,7 @@ left_for next count index least longer more last room one all =
     left_of next ((count - index) * least) ((count - (index + 1)) * least) least more (longer - index) (longer - (index + 1)) last times one all
 
 module _ {B S T H M K E : Type 0} {g : Ghosts H} where
-  -- a lane more that has so many nodes, or one more
+  -- a lane more that has the given number of nodes, or one more
   pub even_more : (least : ℕ) (lanes new : List (Lane B S T H M K E g)) (lane : Lane B S T H M K E g) (next more : ℕ) → new ≡ lanes ++ lane ∷ [] →
       All (λ l. (l.before + least ≤ l.last) × (l.last ≤ l.before + least + 1)) lanes → lane.before ≡ next → lane.last ≡ next + least + more → more ≤ 1 →
       All (λ l. (l.before + least ≤ l.last) × (l.last ≤ l.before + least + 1)) new

@@ -4,7 +4,7 @@ use Rattle.std.proofs.lemmas.List.{take_all, drop_all, append-nil}
 use Rattle.std.proofs.lemmas.List.Elements.{All-append, All-weaker, All-nil, All-cons, All-head, All-tail}
 use Rattle.std.proofs.lemmas.List.Sums.{sum_by-append}
 use Rattle.csg_tree.specs.HalfSpaceTrees.{Tree}
-use Rattle.pair_work.specs.Pairs.{EachWorked}
+use Rattle.parallel_zip.specs.Pairs.{EachWorked}
 use Rattle.subtree_memo.specs.Shares.{ShareView, dropped_max}
 use Rattle.subtree_memo.specs.declared.ledgers.MemoLedger.{Ghosts}
 use Rattle.parallel_eval.specs.declared.lane.Lane.{Lane}

@@ -3,7 +3,7 @@ use Rattle.std.proofs.Common.{◌≡◌, ℕ, ◌+◌, ◌≤◌, List, [], ◌�
 use Rattle.std.proofs.lemmas.List.Elements.{All-nil, All-cons, All-head, All-tail}
 use Rattle.std.proofs.lemmas.List.Sums.{sum_by-cons}
 use Rattle.csg_tree.specs.HalfSpaceTrees.{Tree}
-use Rattle.pair_work.specs.Pairs.{EachWorked}
+use Rattle.parallel_zip.specs.Pairs.{EachWorked}
 use Rattle.subtree_memo.specs.Shares.{ShareView, fresh_share, joined_share, dropped_max}
 use Rattle.subtree_memo.specs.declared.ledgers.MemoLedger.{Ghosts}
 use Rattle.parallel_eval.specs.declared.lane.Lane.{Lane}

@@ -28,7 +28,7 @@ pub record MayAskJoins (may_ask : Tree → Type 0) (trees : List Tree) : Type 0 
   pub each : (tree : Tree) → IsJoinAmong trees tree → may_ask tree
 
 -- What is given where a solid is wanted: the solid where its size is within the limit of one, and else that it
--- is too big. Want of memory is free.
+-- is too big. Memory may run out at any time.
 module _ {Z : Type 0} where
   abbrev pub GivesSolid : BspTree → Result (Arc SolidParts Z) BuildStop → Type 0
   GivesSolid wanted (Ok solid) = (tree_of (arc_value solid) ≡ wanted) × (size wanted ≤ most_solid_size)

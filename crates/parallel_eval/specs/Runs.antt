@@ -2,7 +2,7 @@
 use Rattle.std.specs.Prelude.{◌≡◌, ℕ, ◌+◌, ◌^◌, ◌≤◌, ◌<◌, List, [], ◌∷◌, map, take, length, All, Result, Ok, Err}
 use Rattle.std.specs.Arc.{arc_value}
 use Rattle.std.specs.declared.sync.Arc.{Arc}
-use Rattle.text_place.specs.declared.memory.NoMemory.{NoMemory}
+use Rattle.plain_text.specs.declared.memory.NoMemory.{NoMemory}
 use Rattle.csg_tree.specs.declared.node.CsgNode.{CsgNode}
 use Rattle.csg_tree.specs.declared.node.CsgNode.TheVariants.{Leaf, Join}
 use Rattle.csg_tree.specs.HalfSpaceTrees.{Tree}
@@ -26,11 +26,11 @@ use Rattle.parallel_eval.specs.declared.lane.Lane.{Lane}
 abbrev pub joins_to : List Tree → ℕ → ℕ
 joins_to trees n = join_count (take n trees)
 
--- each builder's count is at most so many
+-- each builder's count is at most the given number
 abbrev pub AreAtMost : {D : Type 0} → (D → ℕ) → ℕ → List D → Type 0
 AreAtMost count most bs = All (λ b. count b ≤ most) bs
 
--- Builders and a share, behind so many joins: there are 1 to 64 builders and a part of the share for each and
+-- Builders and a share, behind the given number of joins: there are 1 to 64 builders and a part of the share for each and
 -- one more, and what was counted so far leaves room for the other joins of a store.
 pub record AreReady {D : Type 0} (count : D → ℕ) (done : ℕ) (share : ShareView) (builders : List D) : Type 0 where
   pub some : 1 ≤ length builders
@@ -45,7 +45,7 @@ pub record IsGrown (trees : List Tree) (n : ℕ) (growth : Growth) : Type 0 wher
   pub sum : growth.sum ≡ total_size (take n trees)
   pub within : AreWithinSizeLimits (take n trees)
 
--- a growth over these trees has so many solids, which is at most as many as there are trees
+-- a growth over these trees has the given number of solids, which is at most the number of trees
 pub record IsGrowing (trees : List Tree) (n : ℕ) (growth : Growth) : Type 0 where
   pub store : growth.store.now ≡ trees
   pub grown : IsGrown trees n growth
@@ -56,7 +56,7 @@ abbrev pub IsBelow : ℕ → CsgNode → Type 0
 IsBelow start (Leaf planes) = Unit {0}
 IsBelow start (Join op left right) = (left ≤ start) × (right ≤ start)
 
--- what is told of the node of a number is true, and it has no tree behind the first ones
+-- what is said about the node of a number is true, and it has no tree behind the first ones
 pub record IsRunNode (trees : List Tree) (start number : ℕ) (node : CsgNode) : Type 0 where
   pub told : IsNodeOf trees number node
   pub proper : IsProper (tree_numbered trees number)
@@ -108,7 +108,7 @@ abbrev pub IsComplete : ℕ → ℕ → List NodeOutcome → Type 0
 IsComplete before last outcomes = (before + length outcomes ≡ last) × AreMade outcomes
 
 module _ {B S T H M K E : Type 0} {g : Ghosts H} where
-  -- a lane may be worked on, by a builder with this count: its nodes are among so many behind the first ones
+  -- a lane may be worked on, by a builder with this count: its nodes are among the given number behind the first ones
   pub record IsLaneReady (start count built : ℕ) (lane : Lane B S T H M K E g) : Type 0 where
     pub parts : 0 < lane.share.share.parts
     pub dropped : lane.share.share.dropped ≤ 2 ^ 47
@@ -124,7 +124,7 @@ module _ {B S T H M K E : Type 0} {g : Ghosts H} where
       (lane.share.share ≡ fresh_share caller 1) × (lane.before ≡ before) × (before ≤ lane.last)
       × (lane.made.items ≡ []) × AreFreshLanes caller lane.last last lanes
 
-  -- no lane has two nodes more than another: each has so many, or one more
+  -- no lane has two nodes more than another: each has the given number, or one more
   abbrev pub AreEven : List (Lane B S T H M K E g) → Type 0
   AreEven lanes = (least : ℕ) × All (λ lane. (lane.before + least ≤ lane.last) × (lane.last ≤ lane.before + least + 1)) lanes
 

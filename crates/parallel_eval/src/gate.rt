@@ -1,7 +1,9 @@
+//! A gate that each build passes before it is made; tests close it to hold or refuse builds.
+
 ghost use Rattle.std.specs.Prelude.{IsOk};
 
+use plain_text::NoMemory;
 use std::sync::Wait;
-use text_place::NoMemory;
 
 /// What each build enters before it is made: a build may be held there, or be refused.
 pub trait Gate {

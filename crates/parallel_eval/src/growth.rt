@@ -38,7 +38,7 @@ impl<'a> Growth<'a> {
         ensures stop { IfErr result (IsTreeStop self.old.store.now) }
         ensures store { self.new.store.now ≡ self.old.store.now }
     {
-        // Brings a law alone: what one tree more adds to the first ones of a list.
+        // Called for its law; does nothing when it runs: what one tree more adds to the first ones of a list.
         one_tree_more();
         let NodeOutcome::Made(solid) = outcome else {
             return Err(TreeStop::TooBig(number));

@@ -16,10 +16,10 @@ use bsp_tree::Solid;
 use csg_tree::{Op, TreeKey};
 use flight_memo::{Claimed, Flight, FlightBooks, FlightShare};
 use memo_core::Namer;
+use plain_text::NoMemory;
 use std::alloc::Global;
 use std::sync::{Arc, Wait};
 use subtree_memo::AskPolicy;
-use text_place::NoMemory;
 
 /// What the builders of a tree's solids have in common: the memo whose joins they claim, and the gate that each
 /// build enters.
@@ -48,8 +48,8 @@ impl<'a, N: Namer<TreeKey>, B: FlightBooks + AskPolicy<TreeKey>, G: Gate, R: Wai
     G,
     R,
 > {
-    /// The solid of a join. It is claimed; where it was missed, it is built and offered, and the claim is finished, or given back
-    /// where there is no solid. `TooBig` comes only where its size is above 50,000, and a solid only where it is not.
+    /// The solid of a join. It is claimed; where it was missed, it is built and offered, and the claim is finished, or given
+    /// back where there is no solid. `TooBig` comes only where its size is above 50,000, and a solid only where it is not.
     pub fn join_solid<D: Builder>(
         &self,
         node: JoinNode<'_>,

@@ -11,11 +11,11 @@ ghost use Rattle.parallel_eval.specs.Known.{shared_solids, IsKnown, AreAllKnown,
 
 use bsp_tree::Solid;
 use csg_tree::{CsgNode, CsgStore, NamedStore, TreeKey};
+use plain_text::NoMemory;
 use std::alloc::Global;
 use std::marker::Model;
 use std::sync::Arc;
 use std::thread::Threads;
-use text_place::NoMemory;
 
 // The most that the solids of leaves which are known may be in size together: 2 MiB at 64 bytes each.
 const MOST_KNOWN: u64 = 32_768;
@@ -46,8 +46,8 @@ impl Model for KnownStore {
 }
 
 impl KnownStore {
-    /// A store with the names of its joins, which at most so many workers make at the same time where threads can be made.
-    /// No solid of a leaf is known.
+    /// A store with the names of its joins, which at most the given number of workers make at the same time where threads can
+    /// be made. No solid of a leaf is known.
     pub fn new<R: Threads + Sync>(
         rt: &R,
         alloc: Global,
@@ -120,8 +120,8 @@ impl KnownStore {
         }
     }
 
-    /// Keeps the solids of leaves, where these are the solids of all nodes, as far as there is room: they come to at most 32,768 in
-    /// size. Where memory runs out, what was known stays.
+    /// Keeps the solids of leaves, where these are the solids of all nodes, as far as there is room: they come to at most
+    /// 32,768 in size. Where memory runs out, what was known stays.
     pub fn keep(&mut self, alloc: Global, solids: &[Arc<Solid>])
         requires solids { shared_solids solids.now ≡ map solid_of self.old }
         requires within { AreWithinSizeLimits self.old }

@@ -1,3 +1,5 @@
+//! One builder's part of a run: its share of the books and the nodes that it builds.
+
 ghost use Rattle.std.specs.Prelude.{◌+◌, ◌≤◌, length};
 
 use crate::growth::NodeOutcome;

@@ -19,11 +19,11 @@ use bsp_tree::Solid;
 use csg_tree::{CsgNode, TreeKey};
 use flight_memo::{FlightBooks, FlightShare};
 use memo_core::Namer;
-use pair_work::PairWork;
+use parallel_zip::PairWork;
+use plain_text::NoMemory;
 use plane_predicate::Plane;
 use std::sync::{Arc, Wait};
 use subtree_memo::AskPolicy;
-use text_place::NoMemory;
 
 /// A run of nodes of a store, behind the first `start` ones, and over the solids of these.
 #[derive(Drop)]
@@ -82,7 +82,7 @@ impl<'a, 'b, N: Namer<TreeKey>, B: FlightBooks + AskPolicy<TreeKey>, G: Gate, R:
         ensures { IsLaneDone self.now.store.now lane.old lane.new (D.builds builder.old)
             (D.builds builder.new) }
     {
-        // Brings a law alone: what one tree more adds to the first ones of a list.
+        // Called for its law; does nothing when it runs: what one tree more adds to the first ones of a list.
         one_tree_more();
         for before in lane.before..lane.last {
             let Ok(outcome) = self.outcome(before + 1, &mut lane.share, builder) else {
@@ -137,7 +137,7 @@ impl<'a, 'b, N: Namer<TreeKey>, B: FlightBooks + AskPolicy<TreeKey>, G: Gate, R:
             (joins_to self.now.store.now number)
             share.old.share share.new.share (D.builds builder.old) (D.builds builder.new) }
     {
-        // Brings a law alone: what one tree more adds to the first ones of a list.
+        // Called for its law; does nothing when it runs: what one tree more adds to the first ones of a list.
         one_tree_more();
         match self.node(number) {
             CsgNode::Leaf(planes) => self.leaf(number, planes),
@@ -175,7 +175,7 @@ impl<'a, 'b, N: Namer<TreeKey>, B: FlightBooks + AskPolicy<TreeKey>, G: Gate, R:
         requires number { (1 ≤ number) × (number ≤ self.now.start) }
         ensures { tree_of result.now ≡ solid_of (tree_numbered self.now.store.now number) }
     {
-        // Brings a law alone: what one tree more adds to the first ones of a list.
+        // Called for its law; does nothing when it runs: what one tree more adds to the first ones of a list.
         one_tree_more();
         &self.solids[number as usize - 1]
     }

@@ -1,4 +1,4 @@
-//! The solids of a store, whose nodes are divided among builders, over a memo that threads share and what an earlier store knew.
+//! The solids of a store: builders divide its nodes, and use a memo that threads share and what an earlier store knew.
 #![tactic(auto)]
 
 mod gate;

@@ -4,8 +4,8 @@ ghost use Rattle.std.specs.Prelude.{◌≡◌, ◌+◌, ◌^◌, ◌<◌, ◌≤
 ghost use Rattle.parallel_eval.specs.Runs.{IsBelow, AreRunNodes};
 
 use csg_tree::{CsgNode, CsgStore};
+use plain_text::NoMemory;
 use std::alloc::Global;
-use text_place::NoMemory;
 
 // The most nodes that a run has.
 const MOST_OF_RUN: u32 = 64;

@@ -1,6 +1,8 @@
+//! Solids as the values of a memo whose keys are trees.
+
 ghost use Rattle.std.specs.Prelude.{◌≡◌};
 ghost use Rattle.csg_tree.specs.Numberings.{is_same_tree};
-ghost use Rattle.csg_tree.proofs.Sameness.{tree_true, tree_itself};
+ghost use Rattle.csg_tree.proofs.lemmas.Sameness.{tree_true, tree_itself};
 ghost use Rattle.bsp_tree.specs.Trees.{size};
 ghost use Rattle.bsp_tree.specs.Shapes.{tree_of};
 ghost use Rattle.bsp_boolean.specs.Solids.{solid_of};

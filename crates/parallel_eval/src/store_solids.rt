@@ -20,16 +20,16 @@ use bsp_tree::Solid;
 use csg_tree::TreeKey;
 use flight_memo::{FlightBooks, FlightLedgers, FlightShare};
 use memo_core::Namer;
-use pair_work::work_each;
+use parallel_zip::work_each;
+use plain_text::NoMemory;
 use std::alloc::Global;
 use std::sync::ledger::Ledger;
 use std::sync::{Arc, Wait};
 use std::thread::Threads;
 use subtree_memo::{AskPolicy, MemoLedger};
-use text_place::NoMemory;
 
-// Divides the nodes behind the first `before` ones, up to the number `last`, evenly among at most so many
-// lanes. Each lane has a node at least. Where memory runs out, the share is as it was.
+// Divides the nodes behind the first `before` ones, up to the number `last`, evenly among at most the given
+// number of lanes. Each lane has a node at least. Where memory runs out, the share is as it was.
 fn deal<B: FlightBooks>(
     alloc: Global,
     share: &mut FlightShare<B>,
@@ -137,7 +137,7 @@ fn work_lanes<
     ensures many { length builders.new ≡ length builders.old }
     ensures err { OnErr result ((share.new ≡ share.old) × (builders.new ≡ builders.old)) }
 {
-    // Brings a law alone: what one tree more adds to the first ones of a list.
+    // Called for its law; does nothing when it runs: what one tree more adds to the first ones of a list.
     one_tree_more();
     let last = work.start + work.nodes.len() as u32;
     let mut lanes = deal(work.builds.alloc, share, work.start, last, builders.len())?;
@@ -233,7 +233,7 @@ fn solids_of<
         (sum_by D.builds builders.new) }
     ensures few { join_count store.now < 2 ^ 32 }
 {
-    // Brings a law alone: what one tree more adds to the first ones of a list.
+    // Called for its law; does nothing when it runs: what one tree more adds to the first ones of a list.
     one_tree_more();
     let nodes = store.store();
     let mut growth = Growth {

@@ -1,3 +1,5 @@
+//! Names keys of the memo by the SHA-256 of their trees.
+
 ghost use Rattle.csg_tree.specs.TreeKeys.{name_of};
 
 use csg_tree::TreeKey;

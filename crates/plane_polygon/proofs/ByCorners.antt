@@ -3,14 +3,14 @@ use Rattle.std.proofs.Common.{◌≡◌, ◌≢◌, ℕ, zero, suc, ◌<◌, [],
 use Rattle.std.proofs.Math.IntN.{*ℤ-zero}
 use Rattle.std.proofs.lemmas.Int.{ints}
 use Rattle.plane_predicate.specs.Space.{Coefficients, Coordinates, value, orientation_seen_from, inner_product, with_weight_above_zero}
-use Rattle.plane_predicate.proofs.IntegerRing.{sums}
-use Rattle.plane_predicate.proofs.Polynomials.{Poly, var, times, ring}
-use Rattle.plane_predicate.proofs.Signs.{neg_neg, pos_neg}
-use Rattle.plane_predicate.proofs.Vectors.{Place, form, place, of_plane, of_point, valueP, turnP}
+use Rattle.plane_predicate.proofs.lemmas.IntegerRing.{sums}
+use Rattle.plane_predicate.proofs.lemmas.Polynomials.{Poly, var, times, ring}
+use Rattle.plane_predicate.proofs.lemmas.Signs.{neg_neg, pos_neg}
+use Rattle.plane_predicate.proofs.lemmas.Vectors.{Place, form, place, of_plane, of_point, valueP, turnP}
 use Rattle.plane_polygon.specs.Polygons.{Outline, edge_plane, edge_count, corner, corner_point, IsPolygon, HasConvexCorners}
-use Rattle.plane_polygon.proofs.CornerSides.{positive_meeting, positive_apart}
-use Rattle.plane_polygon.proofs.Faces.{earlier, after_injective, others_left}
-use Rattle.plane_polygon.proofs.Hull.{after_below, after_other, after_twice, corner_on, directed_apart, turn_is}
+use Rattle.plane_polygon.proofs.lemmas.CornerSides.{positive_meeting, positive_apart}
+use Rattle.plane_polygon.proofs.lemmas.Faces.{earlier, after_injective, others_left}
+use Rattle.plane_polygon.proofs.lemmas.Hull.{after_below, after_other, after_twice, corner_on, directed_apart, turn_is}
 use Rattle.plane_predicate.specs.Indices.{index_after}
 
 -- ---- a point with all its numbers multiplied

@@ -3,18 +3,18 @@ use Rattle.std.proofs.Common.{◌≡◌, ◌↔◌, inl, inr, ℕ, zero, suc, �
 use Rattle.std.proofs.lemmas.List.{map-append}
 use Rattle.std.proofs.lemmas.Int.{ints}
 use Rattle.plane_predicate.specs.Space.{Coefficients, Coordinates, value, opposite_of}
-use Rattle.plane_predicate.proofs.IntegerRing.{sums}
-use Rattle.plane_predicate.proofs.Vectors.{value-opposite}
+use Rattle.plane_predicate.proofs.lemmas.IntegerRing.{sums}
+use Rattle.plane_predicate.proofs.lemmas.Vectors.{value-opposite}
 use Rattle.plane_polygon.specs.Polygons.{Outline, edge_count, corner, IsPolygon, Covers}
 use Rattle.plane_polygon.specs.Parts.{corners, some_of, is_behind, is_ahead, class_by_sides, class_of}
 use Rattle.plane_polygon.specs.Boxes.{trimmed_outline, outline_trimmed_to}
 use Rattle.plane_polygon.specs.declared.classes.Class.{Class}
 use Rattle.plane_polygon.specs.declared.classes.Class.TheVariants.{Behind, Ahead, On, Across}
-use Rattle.plane_polygon.proofs.CornerSides.{some_more}
-use Rattle.plane_polygon.proofs.Hull.{hull}
-use Rattle.plane_polygon.proofs.Rounds.{at_most}
-use Rattle.plane_polygon.proofs.Parts.{behind_polygon, behind_points}
-use Rattle.plane_polygon.proofs.PartCovers.{between_within}
+use Rattle.plane_polygon.proofs.lemmas.CornerSides.{some_more}
+use Rattle.plane_polygon.proofs.lemmas.Hull.{hull}
+use Rattle.plane_polygon.proofs.lemmas.Rounds.{at_most}
+use Rattle.plane_polygon.proofs.lemmas.Parts.{behind_polygon, behind_points}
+use Rattle.plane_polygon.proofs.lemmas.PartCovers.{between_within}
 use Rattle.plane_predicate.specs.Indices.{indices_below}
 
 -- ---- a test that no corner passes

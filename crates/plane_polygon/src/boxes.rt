@@ -7,9 +7,9 @@ ghost use Rattle.plane_polygon.specs.Boxes.{box_outline, box_over_x, box_over_y,
 
 use crate::planes::{high_x, high_y, high_z, low_x, low_y, low_z};
 use crate::{Class, Polygon, cut, sort_by};
+use plain_text::NoMemory;
 use plane_predicate::Plane;
 use std::alloc::Global;
-use text_place::NoMemory;
 
 /// The polygon of a plane's points in the closed world box, where the coordinates are at most 4096
 /// in size. The plane has a point with coordinates at most 4095 in size.
@@ -29,7 +29,7 @@ pub fn box_polygon(alloc: Global, plane: &Plane) -> Result<Polygon, NoMemory>
 }
 
 // The box polygon over z.
-#[tactic(auto, using(crate::proofs::BoxPoints::start_z))]
+#[tactic(auto, using(crate::proofs::lemmas::BoxPoints::start_z))]
 fn over_z(alloc: Global, plane: &Plane) -> Result<Polygon, NoMemory>
     requires { plane.now.c ≢ pos 0 }
     ensures { IfOk result (λ s. s ≡ box_over_z plane.now) }
@@ -41,7 +41,7 @@ fn over_z(alloc: Global, plane: &Plane) -> Result<Polygon, NoMemory>
 }
 
 // The box polygon over y.
-#[tactic(auto, using(crate::proofs::BoxPoints::start_y))]
+#[tactic(auto, using(crate::proofs::lemmas::BoxPoints::start_y))]
 fn over_y(alloc: Global, plane: &Plane) -> Result<Polygon, NoMemory>
     requires { plane.now.b ≢ pos 0 }
     ensures { IfOk result (λ s. s ≡ box_over_y plane.now) }
@@ -53,7 +53,7 @@ fn over_y(alloc: Global, plane: &Plane) -> Result<Polygon, NoMemory>
 }
 
 // The box polygon over x.
-#[tactic(auto, using(crate::proofs::BoxPoints::start_x))]
+#[tactic(auto, using(crate::proofs::lemmas::BoxPoints::start_x))]
 fn over_x(alloc: Global, plane: &Plane) -> Result<Polygon, NoMemory>
     requires { plane.now.a ≢ pos 0 }
     ensures { IfOk result (λ s. s ≡ box_over_x plane.now) }

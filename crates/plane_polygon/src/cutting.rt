@@ -8,9 +8,9 @@ ghost use Rattle.plane_polygon.specs.declared.classes.Class.TheVariants.{Across}
 
 use crate::Polygon;
 use crate::sides::{corner_side, next_side};
+use plain_text::NoMemory;
 use plane_predicate::{Plane, opposite};
 use std::alloc::{AllocError, Global};
-use text_place::NoMemory;
 
 /// The parts behind and ahead of a plane that the polygon is across. They have exactly the
 /// polygon's points that are not ahead of the plane, and those that are not behind it.

@@ -1,4 +1,4 @@
-//! Convex polygons of space, as planes with a cyclic list of edge planes (Bernstein and Fussell).
+//! Convex polygons in space, as planes with a cyclic list of edge planes (Bernstein and Fussell).
 #![tactic(auto)]
 
 ghost use Rattle.std.specs.Prelude.{◌≡◌, IfOk};
@@ -23,13 +23,13 @@ pub use laws::{
 };
 pub use listing::{corners, meeting_of};
 pub use parallels::{is_alike, side_alike};
+use plain_text::NoMemory;
 use plane_predicate::Plane;
 pub use planes::world_planes;
 pub use sides::{next_index, side_at};
 pub use sorting::{class_from, sort_by};
 use std::alloc::Global;
 use std::marker::Model;
-use text_place::NoMemory;
 
 /// A convex polygon: a plane with a cyclic list of at least 3 edge planes, counterclockwise seen
 /// from ahead. Its points are those on the plane and not ahead of any edge.

@@ -7,9 +7,9 @@ ghost use Rattle.plane_polygon.specs.Parts.{corners};
 
 use crate::Polygon;
 use crate::sides::next_index;
+use plain_text::NoMemory;
 use plane_predicate::{Plane, Point, meet, reduce};
 use std::alloc::{AllocError, Global};
-use text_place::NoMemory;
 
 /// The corners, reduced, counterclockwise seen from ahead. Corner i is where edge i ends and edge
 /// i + 1 begins.
@@ -46,7 +46,7 @@ fn corner_point(plane: &Plane, edges: &[Plane], i: usize) -> Point
 }
 
 /// The meeting of three planes whose determinant is positive.
-#[tactic(auto, using(crate::proofs::CornerSides::positive_meeting, crate::proofs::CornerSides::positive_apart))]
+#[tactic(auto, using(crate::proofs::lemmas::CornerSides::positive_meeting, crate::proofs::lemmas::CornerSides::positive_apart))]
 pub fn meeting_of(p: &Plane, q: &Plane, r: &Plane) -> Point
     requires { pos 0 <ℤ (meeting_by_cramers_rule p.now q.now r.now).w }
     ensures { result ≡ meeting_by_cramers_rule p.now q.now r.now }

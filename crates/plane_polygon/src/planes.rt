@@ -3,9 +3,9 @@
 ghost use Rattle.std.specs.Prelude.{◌≡◌, ◌∷◌, [], IfOk};
 ghost use Rattle.plane_polygon.specs.Boxes.{high_x, low_x, high_y, low_y, high_z, low_z};
 
+use plain_text::NoMemory;
 use plane_predicate::Plane;
 use std::alloc::Global;
-use text_place::NoMemory;
 
 /// The six planes of the world box.
 pub fn world_planes(alloc: Global) -> Result<Vec<Plane>, NoMemory>

@@ -18,7 +18,7 @@ pub fn next_index(i: usize, count: usize) -> usize
 }
 
 /// The side of `m` on which a meeting with a positive determinant lies.
-#[tactic(auto, using(crate::proofs::CornerSides::positive_meeting, crate::proofs::CornerSides::positive_apart))]
+#[tactic(auto, using(crate::proofs::lemmas::CornerSides::positive_meeting, crate::proofs::lemmas::CornerSides::positive_apart))]
 pub fn side_at(p: &Plane, q: &Plane, r: &Plane, m: &Plane) -> Side
     requires { pos 0 <ℤ (meeting_by_cramers_rule p.now q.now r.now).w }
     ensures { result ≡ side_of (value m.now (meeting_by_cramers_rule p.now q.now r.now)) }

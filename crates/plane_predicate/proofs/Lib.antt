@@ -1,17 +1,5 @@
-pub mod IntegerRing
-pub mod Polynomials
-pub mod PolynomialSigns
-pub mod Signs
-pub mod Vectors
-pub mod Identities
-pub mod Sizes
-pub mod Opposites
+pub mod lemmas
 pub mod Meetings
-pub mod Divisions
-pub mod ThroughPoints
-pub mod Coprime
-pub mod SamePlanes
-pub mod InUnits
 mod Rows
 pub mod Places
 pub mod Spots

@@ -2,11 +2,11 @@
 use Rattle.std.proofs.Common.{◌≡◌, ℕ, ◌+◌, ◌*◌, ◌≤◌, [], refl, ◌∙◌, arith, ℤ, pos, negsuc, neg_ℤ, ◌+ℤ◌, ◌*ℤ◌, ◌<ℤ◌, unsigned_abs}
 use Rattle.plane_predicate.specs.Space.{Coefficients, Coordinates, minor, meeting_by_cramers_rule, value, negated_point, with_weight_above_zero, meeting}
 use Rattle.plane_predicate.specs.Sides.{value_signed_by}
-use Rattle.plane_predicate.proofs.IntegerRing.{sums, mul_neg_right}
-use Rattle.plane_predicate.proofs.Identities.{cramer_on_first, cramer_on_second, cramer_on_third}
-use Rattle.plane_predicate.proofs.Polynomials.{plus, times, ring}
-use Rattle.plane_predicate.proofs.Vectors.{form, of_plane, minorP, cramerP}
-use Rattle.plane_predicate.proofs.Sizes.{three_products}
+use Rattle.plane_predicate.proofs.lemmas.IntegerRing.{sums, mul_neg_right}
+use Rattle.plane_predicate.proofs.lemmas.Identities.{cramer_on_first, cramer_on_second, cramer_on_third}
+use Rattle.plane_predicate.proofs.lemmas.Polynomials.{plus, times, ring}
+use Rattle.plane_predicate.proofs.lemmas.Vectors.{form, of_plane, minorP, cramerP}
+use Rattle.plane_predicate.proofs.lemmas.Sizes.{three_products}
 
 -- a sum of three products whose second factors are minors
 with_minors : (a b c x y z u v w : ℤ) → x ≡ u → y ≡ v → z ≡ w → a *ℤ x +ℤ b *ℤ y +ℤ c *ℤ z ≡ a *ℤ u +ℤ b *ℤ v +ℤ c *ℤ w

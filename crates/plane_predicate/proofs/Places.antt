@@ -4,11 +4,11 @@ use Rattle.std.proofs.Math.IntN.{*ℤ-zero, zero-*ℤ}
 use Rattle.plane_predicate.specs.Space.{Coefficients, Coordinates, meeting_by_cramers_rule, minor, value}
 use Rattle.plane_predicate.specs.Sides.{side_of}
 use Rattle.plane_predicate.specs.declared.sides.Side.TheVariants.{Behind, Ahead}
-use Rattle.plane_predicate.proofs.IntegerRing.{sums, mul_neg_right}
-use Rattle.plane_predicate.proofs.Identities.{as_cramer, weight_swapped}
-use Rattle.plane_predicate.proofs.Polynomials.{plus, times, ring}
-use Rattle.plane_predicate.proofs.Signs.{signs, pos_pos, pos_neg}
-use Rattle.plane_predicate.proofs.Vectors.{form, of_plane, minorP, determinantP}
+use Rattle.plane_predicate.proofs.lemmas.IntegerRing.{sums, mul_neg_right}
+use Rattle.plane_predicate.proofs.lemmas.Identities.{as_cramer, weight_swapped}
+use Rattle.plane_predicate.proofs.lemmas.Polynomials.{plus, times, ring}
+use Rattle.plane_predicate.proofs.lemmas.Signs.{signs, pos_pos, pos_neg}
+use Rattle.plane_predicate.proofs.lemmas.Vectors.{form, of_plane, minorP, determinantP}
 use Rattle.plane_predicate.specs.declared.place.Place.{Place}
 use Rattle.plane_predicate.specs.Lines.{Axis, IsAxisOf, IsLinePlaceOf}
 

@@ -3,7 +3,7 @@ use Rattle.std.proofs.Common.{◌≡◌, [], ◌∷◌, refl, arith, ℤ, pos, n
 use Rattle.plane_predicate.specs.Space.{Coefficients, Coordinates, value, opposite_of, orientation_seen_from, meeting_by_cramers_rule, meeting, point_at, plane_of_points, AreCollinear, IsInReach, IsInWorld, IsInClosedWorld, IsPlaneTimes, IsPointTimes}
 use Rattle.plane_predicate.specs.Sides.{side_of}
 use Rattle.plane_predicate.specs.declared.sides.Side.TheVariants.{Behind, On, Ahead}
-use Rattle.plane_predicate.proofs.IntegerRing.{sums}
+use Rattle.plane_predicate.proofs.lemmas.IntegerRing.{sums}
 
 abbrev plane : ℤ → ℤ → ℤ → ℤ → Coefficients
 plane a b c d = record { a = a; b = b; c = c; d = d }

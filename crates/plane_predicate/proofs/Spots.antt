@@ -2,11 +2,11 @@
 use Rattle.std.proofs.Common.{◌≡◌, ◌≢◌, zero, suc, [], refl, sym, ap, ◌∙◌, arith, ℤ, pos, negsuc, ◌<ℤ◌, subst}
 use Rattle.plane_predicate.specs.Space.{Coefficients, Coordinates, minor, with_weight_above_zero, value}
 use Rattle.plane_predicate.specs.Sides.{value_signed_by}
-use Rattle.plane_predicate.proofs.IntegerRing.{sums}
+use Rattle.plane_predicate.proofs.lemmas.IntegerRing.{sums}
 use Rattle.plane_predicate.proofs.Meetings.{value_signed}
-use Rattle.plane_predicate.proofs.Opposites.{same_point}
-use Rattle.plane_predicate.proofs.Polynomials.{num, ring}
-use Rattle.plane_predicate.proofs.Vectors.{Place, form, of_plane, minorP, valueP}
+use Rattle.plane_predicate.proofs.lemmas.Opposites.{same_point}
+use Rattle.plane_predicate.proofs.lemmas.Polynomials.{num, ring}
+use Rattle.plane_predicate.proofs.lemmas.Vectors.{Place, form, of_plane, minorP, valueP}
 use Rattle.plane_predicate.specs.Lines.{IsOnBoth}
 
 -- ---- the point with its w above 0

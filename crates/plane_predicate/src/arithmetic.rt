@@ -3,7 +3,7 @@
 ghost use Rattle.std.specs.Prelude.{◌≡◌, ◌+◌, ◌*◌, ◌^◌, ◌<◌, ◌≤◌, ◌+ℤ◌, ◌-ℤ◌, ◌*ℤ◌, unsigned_abs};
 ghost use Rattle.plane_predicate.specs.Space.{minor, most_direction, most_offset};
 
-#[tactic(auto, using(crate::proofs::Sizes::size_times))]
+#[tactic(auto, using(crate::proofs::lemmas::Sizes::size_times))]
 pub fn times(a: i128, b: i128) -> i128
     requires { unsigned_abs a * unsigned_abs b < 2 ^ 127 }
     ensures value { result ≡ a *ℤ b }
@@ -12,7 +12,7 @@ pub fn times(a: i128, b: i128) -> i128
     a * b
 }
 
-#[tactic(auto, using(crate::proofs::Sizes::size_sum))]
+#[tactic(auto, using(crate::proofs::lemmas::Sizes::size_sum))]
 pub fn plus(a: i128, b: i128) -> i128
     requires { unsigned_abs a + unsigned_abs b < 2 ^ 127 }
     ensures value { result ≡ a +ℤ b }
@@ -21,7 +21,7 @@ pub fn plus(a: i128, b: i128) -> i128
     a + b
 }
 
-#[tactic(auto, using(crate::proofs::Sizes::size_difference))]
+#[tactic(auto, using(crate::proofs::lemmas::Sizes::size_difference))]
 pub fn minus(a: i128, b: i128) -> i128
     requires { unsigned_abs a + unsigned_abs b < 2 ^ 127 }
     ensures value { result ≡ a -ℤ b }

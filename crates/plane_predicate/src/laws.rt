@@ -7,9 +7,18 @@ ghost use Rattle.plane_predicate.specs.Space.{Coefficients, Coordinates, opposit
 ghost use Rattle.plane_predicate.specs.InUnits.{in_steps, in_units};
 ghost use Rattle.plane_predicate.specs.Units.{grid_steps_per_unit};
 
+use crate::Plane;
+
+/// A plane has the form that its type keeps.
+pub fn planes_keep_their_form(plane: &Plane)
+    ensures { IsPlane plane.now }
+{
+    let _ = &plane.a;
+}
+
 /// Two planes without a common factor are the same set of points exactly where they are equal or
 /// opposite, and it is enough for that if all points of the one are on the other.
-#[tactic(auto, using(crate::proofs::SamePlanes::same_points, crate::proofs::SamePlanes::equal_or_opposite))]
+#[tactic(auto, using(crate::proofs::lemmas::SamePlanes::same_points, crate::proofs::lemmas::SamePlanes::equal_or_opposite))]
 pub fn planes_with_the_same_points()
     ensures same { (m n : Coefficients) → IsPlane m → IsPlane n → HaveSamePoints m n
         ↔ ((m ≡ n) ⊎ (m ≡ opposite_of n)) }

@@ -1,4 +1,4 @@
-//! Planes of space and their meetings, in exact whole numbers.
+//! Planes in space and the points where they meet, in exact whole numbers.
 #![tactic(auto)]
 
 mod arithmetic;
@@ -13,7 +13,9 @@ mod small_arithmetic;
 mod through;
 mod unit;
 
-pub use laws::{planes_with_the_same_points, points_in_units_and_grid_steps};
+pub use laws::{
+    planes_keep_their_form, planes_with_the_same_points, points_in_units_and_grid_steps,
+};
 pub use line::{Line, line_of};
 pub use meeting::{meet, opposite, point_side, side};
 pub use place::{Place, place_on, side_between};

@@ -4,7 +4,7 @@ ghost use Rattle.std.specs.Prelude.{◌≡◌, ◌+◌, ◌*◌, ◌^◌, ◌<�
 ghost use Rattle.plane_predicate.specs.Space.{minor};
 ghost use Rattle.plane_predicate.specs.Lines.{small_direction, small_offset};
 
-#[tactic(auto, using(crate::proofs::Sizes::size_times))]
+#[tactic(auto, using(crate::proofs::lemmas::Sizes::size_times))]
 pub fn times(a: i64, b: i64) -> i64
     requires { unsigned_abs a * unsigned_abs b < 2 ^ 63 }
     ensures value { result ≡ a *ℤ b }
@@ -13,7 +13,7 @@ pub fn times(a: i64, b: i64) -> i64
     a * b
 }
 
-#[tactic(auto, using(crate::proofs::Sizes::size_sum))]
+#[tactic(auto, using(crate::proofs::lemmas::Sizes::size_sum))]
 pub fn plus(a: i64, b: i64) -> i64
     requires { unsigned_abs a + unsigned_abs b < 2 ^ 63 }
     ensures value { result ≡ a +ℤ b }
@@ -22,7 +22,7 @@ pub fn plus(a: i64, b: i64) -> i64
     a + b
 }
 
-#[tactic(auto, using(crate::proofs::Sizes::size_difference))]
+#[tactic(auto, using(crate::proofs::lemmas::Sizes::size_difference))]
 pub fn minus(a: i64, b: i64) -> i64
     requires { unsigned_abs a + unsigned_abs b < 2 ^ 63 }
     ensures value { result ≡ a -ℤ b }

@@ -6,7 +6,7 @@ use Rattle.std.proofs.lemmas.Int.{ints}
 use Rattle.std.proofs.lemmas.List.Concat.{flat_map-append}
 use Rattle.std.proofs.lemmas.List.Elements.{All-append, All-nil, All-cons}
 use Rattle.plane_predicate.specs.Space.{Coefficients, Coordinates, value, opposite_of}
-use Rattle.plane_predicate.proofs.Vectors.{value-opposite}
+use Rattle.plane_predicate.proofs.lemmas.Vectors.{value-opposite}
 use Rattle.plane_polygon.specs.Polygons.{Outline, corner, edge_count, missing_plane, IsPolygon}
 use Rattle.plane_polygon.specs.Parts.{index_before, edges_kept_at, edges_kept_by, corners, is_behind, is_ahead, part_behind, part_ahead}
 use Rattle.plane_table.specs.declared.faces.Face.{Face}
@@ -17,7 +17,7 @@ use Rattle.plane_table.specs.declared.cutting.Half.{Half}
 use Rattle.plane_table.specs.declared.cutting.Half.TheVariants.{Behind, Ahead}
 use Rattle.plane_table.specs.Cuts.{is_strictly_in_half, numbers_kept_at, kept_numbers, on_the_plane, part_in, side_number}
 use Rattle.plane_table.proofs.Numbers.{get_map, named_opposite, opposite_in}
-use Rattle.plane_table.proofs.Corners.{get_up_to, length-indices_below, sides_map}
+use Rattle.plane_table.proofs.lemmas.Corners.{get_up_to, length-indices_below, sides_map}
 use Rattle.plane_predicate.specs.Indices.{indices_below}
 
 -- ---- lists over 0, 1, .. below n

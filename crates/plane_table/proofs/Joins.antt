@@ -12,7 +12,7 @@ use Rattle.plane_table.specs.Tables.{plane_named, oriented_by_number, opposite_n
 use Rattle.plane_table.specs.Faces.{outline_of, IsFaceOver}
 use Rattle.plane_table.specs.Joins.{Finds, AreFirstNumbersOf, AreNumbersOf, AreNumbersOfUsed, KeepsNumbers, HasNumberOver, AreNumbersFound, IsPlaneKept, AreMarkedUsed, number_among}
 use Rattle.plane_table.proofs.Numbers.{even, odd, parity, get_map, named_more, named_last, named_opposite, opposite_in}
-use Rattle.plane_table.proofs.Orders.{apart_back}
+use Rattle.plane_table.proofs.lemmas.Orders.{apart_back}
 use Rattle.plane_table.proofs.Cuts.{same_outline}
 
 -- ---- lists that grow

@@ -1,10 +1,8 @@
 pub mod Numbers
-pub mod Corners
+pub mod lemmas
 pub mod Cuts
-pub mod Planes
 pub mod Small
 mod Lines
-pub mod Orders
 pub mod Oriented
 pub mod Joins
 mod Rows

@@ -9,7 +9,7 @@ use Rattle.plane_predicate.specs.Indices.{index_after}
 use Rattle.plane_table.specs.declared.faces.Face.{Face}
 use Rattle.plane_table.specs.Tables.{plane_named}
 use Rattle.plane_table.specs.Faces.{IsSideAt}
-use Rattle.plane_table.proofs.Corners.{after_in, corner_is}
+use Rattle.plane_table.proofs.lemmas.Corners.{after_in, corner_is}
 
 -- the side that two places say, as side_between ensures it
 abbrev pub SaysSide : Place → Place → Side → Type 0

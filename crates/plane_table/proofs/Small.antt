@@ -1,7 +1,7 @@
 -- Planes of small numbers, by number.
 use Rattle.std.proofs.Common.{ℕ, ◌/◌, ◌≤◌, List, get_or, sym, subst, inl, inr, arith, All}
 use Rattle.plane_predicate.specs.Space.{Coefficients, opposite_of}
-use Rattle.plane_predicate.proofs.Opposites.{size_of_negative}
+use Rattle.plane_predicate.proofs.lemmas.Opposites.{size_of_negative}
 use Rattle.plane_predicate.specs.Lines.{IsSmall}
 use Rattle.plane_polygon.specs.Polygons.{missing_plane}
 use Rattle.plane_table.specs.Tables.{plane_named, NamesPlaneIn}

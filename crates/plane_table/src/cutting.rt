@@ -7,9 +7,9 @@ ghost use Rattle.plane_table.specs.Faces.{outline_of, IsFaceOver};
 ghost use Rattle.plane_table.specs.Cuts.{is_strictly_in_half, numbers_kept_at, kept_numbers, part_in, side_number, IsCrossing};
 
 use crate::{CornerSide, CornerSides, Edges, Face, PlaneTable, opposite_number};
+use plain_text::NoMemory;
 use plane_polygon::parts_are_polygons;
 use std::alloc::Global;
-use text_place::NoMemory;
 
 /// One of the two half spaces of a plane.
 #[derive(Clone, Copy)]
@@ -45,7 +45,7 @@ pub fn cut(
         (plane_named table.now crossing.entry.number)) }
     ensures face { IfOk result (IsFaceOver table.now) }
 {
-    // Brings a law alone: the two parts of a polygon are polygons.
+    // Called for its law; does nothing when it runs: the two parts of a polygon are polygons.
     parts_are_polygons();
     let Crossing {
         face,

@@ -7,10 +7,10 @@ ghost use Rattle.plane_table.specs.Tables.{plane_named, AreFirstOriented, AreOri
 
 use crate::numbering::MOST_PLANES;
 use crate::opposite_number;
+use plain_text::NoMemory;
 use plane_polygon::is_alike;
 use plane_predicate::{Plane, opposite};
 use std::alloc::Global;
-use text_place::NoMemory;
 
 /// A plane with the number of one that has the same direction.
 #[derive(Clone, Copy)]

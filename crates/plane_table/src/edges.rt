@@ -2,10 +2,10 @@
 
 ghost use Rattle.std.specs.Prelude.{◌≡◌, ◌<◌, ◌++◌, [], ◌∷◌, length, slice_index, IfOk, OnOk};
 
+use plain_text::NoMemory;
 use smallvec::SmallVec;
 use std::alloc::Global;
 use std::marker::Model;
-use text_place::NoMemory;
 
 /// How many numbers stand in the value itself.
 pub const FEW: usize = 6;

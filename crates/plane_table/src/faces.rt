@@ -4,9 +4,9 @@ ghost use Rattle.std.specs.Prelude.{◌≡◌, ◌-◌, ◌^◌, min, IfOk};
 ghost use Rattle.plane_table.specs.Faces.{face_size, outline_of, IsFaceOver};
 
 use crate::{Edges, PlaneTable};
+use plain_text::NoMemory;
 use plane_polygon::Polygon;
 use std::alloc::Global;
-use text_place::NoMemory;
 
 /// A convex polygon over a list of planes, with numbers in place of its planes: 2k names plane k of
 /// the list, and 2k + 1 its opposite.

@@ -6,9 +6,9 @@ ghost use Rattle.plane_table.specs.Joins.{AreFirstNumbersOf, AreNumbersOf, Keeps
 
 use crate::numbering::{MOST_PLANES, add, number_at, numbers_of};
 use crate::ordering::{compare, in_order, is_ascending};
+use plain_text::NoMemory;
 use plane_predicate::Plane;
 use std::alloc::Global;
-use text_place::NoMemory;
 
 /// Two lists of planes in one, no two planes of which are equal or opposite.
 #[derive(Drop)]

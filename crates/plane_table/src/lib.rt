@@ -1,4 +1,4 @@
-//! Planes by number, and the faces of solids as lists of such numbers.
+//! Numbered planes, and the faces of solids as lists of these numbers.
 #![tactic(auto)]
 
 mod cutting;

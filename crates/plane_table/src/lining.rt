@@ -9,11 +9,11 @@ ghost use Rattle.plane_table.specs.Faces.{outline_of, side_against, AreSidesWher
 
 use crate::sorting::{CornerList, corner_on, is_either};
 use crate::{CornerSides, Face, PlaneTable};
+use plain_text::NoMemory;
 use plane_polygon::{Class, class_from};
 use plane_predicate::{Line, line_of, place_on, side_between};
 use smallvec::SmallVec;
 use std::alloc::Global;
-use text_place::NoMemory;
 
 /// How a face lies against the plane of a number, by the places at which its edges meet the line of the
 /// two planes. `None` is no promise: it is where the table isn't small, and where the planes are parallel.

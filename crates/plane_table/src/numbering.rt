@@ -9,10 +9,10 @@ ghost use Rattle.plane_table.specs.Joins.{AreHalfFacesOf, AreNumbersOf, IsOwnFac
 
 use crate::ordering::in_order;
 use crate::{Edges, Face};
+use plain_text::NoMemory;
 use plane_polygon::{Polygon, box_polygon, polygons_keep_their_form, world_planes};
-use plane_predicate::{Plane, opposite};
+use plane_predicate::{Plane, opposite, planes_keep_their_form};
 use std::alloc::Global;
-use text_place::NoMemory;
 
 /// The greatest number of planes in a list: twice as many numbers fit 32 bits.
 pub const MOST_PLANES: usize = 2_147_483_648;
@@ -73,8 +73,7 @@ fn half_faces_over(alloc: Global, known: Vec<Plane>, from: &[Plane]) -> Result<H
     let mut planes = known;
     let mut faces = Vec::with_capacity(alloc, from.len())?;
     for plane in from {
-        // Reading a number shows the proof what each plane keeps.
-        let _ = &plane.a;
+        planes_keep_their_form(plane);
         let own = own_face(alloc, planes, &box_polygon(alloc, plane)?)?;
         planes = own.planes;
         faces.push(own.face)?;

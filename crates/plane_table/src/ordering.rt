@@ -4,10 +4,10 @@ ghost use Rattle.std.specs.Prelude.{◌≡◌, ◌↔◌, IfOk, IsTrue};
 ghost use Rattle.plane_table.specs.Tables.{HasNoTwoAlike};
 ghost use Rattle.plane_table.specs.Orders.{by_numbers, plane_order, is_low, normal_form, ComesNext, IsAscending};
 
+use plain_text::NoMemory;
 use plane_predicate::{Plane, opposite};
 use std::alloc::Global;
 use std::cmp::Ordering;
-use text_place::NoMemory;
 
 /// The planes of a list in ascending order: of planes that are equal or opposite one.
 pub fn in_order(alloc: Global, planes: Vec<Plane>) -> Result<Vec<Plane>, NoMemory>

@@ -8,10 +8,10 @@ ghost use Rattle.plane_table.specs.Joins.{number_among, AreNumbersOfUsed, AreNum
 
 use crate::numbering::{NumberedPlanes, add};
 use crate::{Edges, Face, opposite_number};
+use plain_text::NoMemory;
 use plane_predicate::Plane;
 use smallvec::SmallVec;
 use std::alloc::Global;
-use text_place::NoMemory;
 
 /// A face over another list of planes, by the numbers that the planes of its own list have there. Its
 /// outline stays.

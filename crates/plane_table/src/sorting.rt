@@ -10,11 +10,11 @@ ghost use Rattle.plane_table.specs.Faces.{corner_on, outline_of, side_against, A
 
 use crate::lining::sides_by_line;
 use crate::{Face, PlaneTable, opposite_number};
+use plain_text::NoMemory;
 use plane_polygon::{Class, class_from, next_index, side_alike, side_at};
 use plane_predicate::Side;
 use smallvec::{SmallVec, smallvec};
 use std::alloc::Global;
-use text_place::NoMemory;
 
 // How many sides stand in the value itself.
 const FEW: usize = 8;

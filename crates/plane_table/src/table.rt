@@ -6,10 +6,10 @@ ghost use Rattle.plane_polygon.specs.Parallels.{HasSameDirection};
 ghost use Rattle.plane_table.specs.Tables.{plane_named, opposite_number, AreNumbersSmall, HasNoTwoAlike, NamesPlaneIn};
 
 use crate::directions::{OrientedPlane, by_number};
-use plane_predicate::{Plane, are_small};
+use plain_text::NoMemory;
+use plane_predicate::{Plane, are_small, planes_keep_their_form};
 use std::alloc::Global;
 use std::marker::Model;
-use text_place::NoMemory;
 
 /// Planes by number, which contracts see as the list of planes: 2k names plane k of the list, and
 /// 2k + 1 its opposite.
@@ -57,6 +57,13 @@ impl PlaneTable {
         &self.planes
     }
 
+    // No two planes of the list are equal or opposite, as the type keeps.
+    fn keeps_its_planes_apart(&self)
+        ensures { HasNoTwoAlike self.now }
+    {
+        let _ = &self.planes;
+    }
+
     /// The plane that a number names.
     pub fn plane(&self, number: u32) -> &Plane
         requires { NamesPlaneIn self.now number }
@@ -88,9 +95,8 @@ impl PlaneTable {
         requires n { NamesPlaneIn self.now n }
         ensures { result ≡ is_same (plane_named self.now m) (plane_named self.now n) }
     {
-        // Reading these shows the proof what a table and a plane keep.
-        let _ = &self.planes;
-        let _ = &self.plane(m).a;
+        self.keeps_its_planes_apart();
+        planes_keep_their_form(self.plane(m));
         m == n
     }
 
@@ -100,9 +106,8 @@ impl PlaneTable {
         requires n { NamesPlaneIn self.now n }
         ensures { result ≡ is_same (plane_named self.now m) (opposite_of (plane_named self.now n)) }
     {
-        // Reading these shows the proof what a table and a plane keep.
-        let _ = &self.planes;
-        let _ = &self.plane(m).a;
+        self.keeps_its_planes_apart();
+        planes_keep_their_form(self.plane(m));
         m == opposite_number(n)
     }
 }

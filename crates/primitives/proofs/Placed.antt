@@ -5,8 +5,8 @@ use Rattle.std.proofs.lemmas.List.{take_more}
 use Rattle.plane_predicate.specs.Space.{Coefficients}
 use Rattle.primitives.specs.Shapes.{Mesh, IsPlaneOfFace}
 use Rattle.primitives.specs.Placing.{ArePlanesOf}
-use Rattle.primitives.proofs.Distinct.{among, distinct_planes-push}
-use Rattle.primitives.proofs.Lists.{zip_push}
+use Rattle.primitives.proofs.lemmas.Distinct.{among, distinct_planes-push}
+use Rattle.primitives.proofs.lemmas.Lists.{zip_push}
 
 each_next : (mesh : Mesh) (faces : List (List ℕ)) (i : ℕ) (face : List ℕ) (m : Coefficients) (all : List Coefficients) → i < length faces → face ≡ get_or faces i face → AllZip (IsPlaneOfFace mesh) (take i faces) all → IsPlaneOfFace mesh face m → AllZip (IsPlaneOfFace mesh) (take (i + 1) faces) (all ++ m ∷ [])
 each_next mesh faces i face m all lt is h r =

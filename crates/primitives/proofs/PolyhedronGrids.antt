@@ -4,7 +4,7 @@ use Rattle.std.proofs.lemmas.List.{get_or-map, length-map}
 use Rattle.plane_predicate.specs.declared.unit.Unit.{Unit as LengthUnit}
 use Rattle.plane_predicate.specs.Space.{point_at}
 use Rattle.plane_predicate.specs.Units.{grid_steps_per_unit}
-use Rattle.plane_predicate.proofs.Sizes.{size_product}
+use Rattle.plane_predicate.proofs.lemmas.Sizes.{size_product}
 use Rattle.primitives.specs.Checks.{grid_point_of, grid_points_of}
 use Rattle.primitives.specs.Shapes.{IsPointInRange}
 use Rattle.primitives.specs.GridSizes.{IsWithinGridLimits}

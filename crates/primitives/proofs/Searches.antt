@@ -1,7 +1,7 @@
 -- Searches through lists.
 use Rattle.std.specs.Bool.{OnTrue, OnFalse}
 use Rattle.std.proofs.Common.{ℕ, Bool, true, false, List, subst, All, Any, arith, ℤ, pos, ◌<ℤ◌, ◌≤ℤ◌}
-use Rattle.plane_predicate.proofs.IntegerRing.{sums}
+use Rattle.plane_predicate.proofs.lemmas.IntegerRing.{sums}
 
 pub above_most : (x : ℤ) → pos 0 <ℤ x → x ≤ℤ pos 0 → ⊥
 above_most x h k = omega (arith, sums, h, k)

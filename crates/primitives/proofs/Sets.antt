@@ -24,7 +24,7 @@ tells_equal Equal h = refl
 tells_equal Less h = cc
 tells_equal Greater h = cc
 
--- the set has exactly the first so many of some ways
+-- the set has exactly the first n of some ways
 pub record HasFirst (R : DirectedEdge → DirectedEdge → Ordering) (s : BTreeSet DirectedEdge) (ways : List DirectedEdge) (n : ℕ) : Type 0 where
   pub found : (w : DirectedEdge) → IsTrue (contains R s w) ↔ IsMetBelow ways n w
   pub different : AreDifferentBelow ways n

@@ -2,9 +2,9 @@
 use Rattle.std.proofs.Common.{◌≡◌, ℕ, List, [], ◌∷◌, get_or, refl, subst, sym, arith, ℤ, pos, ◌-ℤ◌, All, Option, Some, None}
 use Rattle.std.specs.Option.{IsSome, IsNone}
 use Rattle.plane_predicate.specs.Space.{Coefficients, Coordinates, minor, plane_of_points, AreCollinear}
-use Rattle.plane_predicate.proofs.IntegerRing.{sums}
-use Rattle.plane_predicate.proofs.Polynomials.{var, minus, ring}
-use Rattle.plane_predicate.proofs.Vectors.{minorP}
+use Rattle.plane_predicate.proofs.lemmas.IntegerRing.{sums}
+use Rattle.plane_predicate.proofs.lemmas.Polynomials.{var, minus, ring}
+use Rattle.plane_predicate.proofs.lemmas.Vectors.{minorP}
 use Rattle.primitives.specs.Shapes.{mesh_point, HasTriangle}
 use Rattle.primitives.specs.Spanning.{HasNoDirection}
 

@@ -18,7 +18,7 @@ pub record HasEnoughCorners (faces : List (List ℕ)) : Type 0 where
   pub faces_least : 4 ≤ length faces
   pub corners_least : All (λ f. 3 ≤ length f) faces
 
--- each corner of a face is the number of one of so many points, from 0
+-- each corner of a face is a number below the given number of points
 abbrev pub AreCornersThere : ℕ → List (List ℕ) → Type 0
 AreCornersThere points faces = All (λ f. All (λ i. i < points) f) faces
 

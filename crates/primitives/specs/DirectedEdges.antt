@@ -17,7 +17,7 @@ reversed_edge w = record { from = w.to; to = w.from }
 abbrev pub edge_between : List ℤ → List ℤ → List DirectedEdge
 edge_between p q = if pointwise int_eq p q then [] else record { from = p; to = q } ∷ []
 
--- the place in a face of so many corners that follows place k: the first follows the last
+-- the place in a face of the given number of corners that follows place k: the first follows the last
 abbrev pub next_in_face : ℕ → ℕ → ℕ
 next_in_face k corners = if nat_eq (k + 1) corners then 0 else k + 1
 
@@ -48,7 +48,7 @@ pub record IsMetOnce (ways : List DirectedEdge) (w : DirectedEdge) : Type 0 wher
 abbrev pub AreMetBothWays : List DirectedEdge → Type 0
 AreMetBothWays ways = All (λ w. IsMetOnce ways w × IsMetOnce ways (reversed_edge w)) ways
 
--- an edge is among the first so many of some edges
+-- an edge is among the first n of some edges
 pub record IsMetBelow (ways : List DirectedEdge) (n : ℕ) (w : DirectedEdge) : Type 0 where
   pub at : ℕ
   pub at_in : at < n
@@ -58,7 +58,7 @@ pub record IsMetBelow (ways : List DirectedEdge) (n : ℕ) (w : DirectedEdge) : 
 abbrev pub IsMet : List DirectedEdge → DirectedEdge → Type 0
 IsMet ways w = IsMetBelow ways (length ways) w
 
--- no two of the first so many of some edges are the same
+-- no two of the first n of some edges are the same
 pub record AreDifferentBelow (ways : List DirectedEdge) (n : ℕ) : Type 0 where
   pub same : (i j : ℕ) → i < n → j < n → get_or ways i missing_edge ≡ get_or ways j missing_edge → i ≡ j
 

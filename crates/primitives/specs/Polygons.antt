@@ -106,7 +106,7 @@ IsPolygonFault unit points OutOfRange = (length points ≤ 64) × (3 ≤ length 
 IsPolygonFault unit points NotConvex = (length points ≤ 64) × (3 ≤ length points) × All IsFlatPointInRange points × (IsConvexPolygon (polygon_of unit points) → ⊥)
 IsPolygonFault unit points kind = ⊥
 
--- the stops of a polygon: its first fault, or want of memory
+-- the stops of a polygon: its first fault, or that memory ran out
 abbrev pub IsPolygonStop : LengthUnit → List (List ℤ) → ShapeStop → Type 0
 IsPolygonStop unit points (Kind kind) = IsPolygonFault unit points kind
 IsPolygonStop unit points NoMemory = ⊤

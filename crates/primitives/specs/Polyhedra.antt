@@ -63,7 +63,7 @@ pub record IsFaultOf (list : List (Type 0)) (names : List FaultKind) (kind : Fau
   pub is : kind ≡ get_or names number NotConvex
   pub fails : IsFirstToFail list number
 
--- the fault of the first check that fails. Want of memory may come at any time
+-- the fault of the first check that fails. Memory may run out at any time
 abbrev pub IsFirstPolyhedronFault : LengthUnit → List (List ℤ) → List (List ℕ) → ShapeStop → Type 0
 IsFirstPolyhedronFault unit points faces (Kind kind) = IsFaultOf (polyhedron_checks unit points faces) polyhedron_faults kind
 IsFirstPolyhedronFault unit points faces NoMemory = ⊤
@@ -78,7 +78,7 @@ abbrev pub IsSurfaceFault : Mesh → ShapeStop → Type 0
 IsSurfaceFault mesh (Kind kind) = IsFaultOf (surface_checks mesh) surface_faults kind
 IsSurfaceFault mesh NoMemory = ⊤
 
--- the answer is this fault exactly where this holds, but for want of memory
+-- the answer is this fault exactly where this holds, unless memory ran out
 pub record IsAnsweredWhere {A : Type 0} (answer : Result A ShapeStop) (kind : FaultKind) (P : Type 0) : Type 0 where
   pub only : answer ≡ Err (Kind kind) → P
   pub always : P → (answer ≡ Err (Kind kind)) ⊎ (answer ≡ Err NoMemory)

@@ -23,7 +23,7 @@ side_over points i =
     let n = length points in let j = index_after n i in
     cond (is_same_flat_point (polygon_point points i) (polygon_point points j)) [] ((i ∷ j ∷ (n + j) ∷ (n + i) ∷ []) ∷ [])
 
--- the sides over the first so many points, in the order of the points
+-- the sides over the first n points, in the order of the points
 abbrev pub sides_over : List (List ℤ) → ℕ → List (List ℕ)
 sides_over points count = flat_map (side_over points) (range_with_len 0 count)
 

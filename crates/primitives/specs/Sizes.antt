@@ -42,12 +42,12 @@ IsSizeFault unit center sides NotOnGrid = All IsAtLeastOne sides × (center ≡ 
 IsSizeFault unit center sides TooLarge = All IsAtLeastOne sides × AreOnGrid unit center sides × Any (λ s. IsSafe (length_in_grid_steps unit s) → ⊥) sides
 IsSizeFault unit center sides kind = ⊥
 
--- the stops of sides and heights: their first fault, or want of memory
+-- the stops of sides and heights: their first fault, or that memory ran out
 abbrev pub IsSizeStop : LengthUnit → Bool → List ℤ → ShapeStop → Type 0
 IsSizeStop unit center sides (Kind kind) = IsSizeFault unit center sides kind
 IsSizeStop unit center sides NoMemory = ⊤
 
--- where so many grid steps begin: at 0, or where centred at minus one half of them
+-- where the given number of grid steps begin: at 0, or where centred at minus one half of them
 abbrev pub low_at : Bool → ℤ → ℤ
 low_at false steps = pos 0
 low_at true steps = neg_ℤ (pos (unsigned_abs steps / 2))

@@ -80,7 +80,7 @@ fn goes_right(points: &[[i64; 2]]) -> bool
     true
 }
 
-/// The number of the point that follows point `i` of so many, round the polygon.
+/// The number of the point that follows point `i` of the given number of points, around the polygon.
 pub fn next_point(count: usize, i: usize) -> usize
     requires { i < count }
     ensures value { result ≡ after_of count i }

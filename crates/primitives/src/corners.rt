@@ -1,3 +1,5 @@
+//! The list type of a face's corners.
+
 ghost use Rattle.std.specs.Prelude.{◌≡◌};
 
 use std::marker::Model;

@@ -48,7 +48,7 @@ fn is_there(points: usize, face: &[u32]) -> bool
     true
 }
 
-// Whether each face has at most so many corners.
+// Whether each face has at most the given number of corners.
 fn have_at_most(faces: &[Corners], most: usize) -> bool
     ensures all { OnTrue result (All (λ f. length f ≤ most) faces.now) }
     ensures past { OnFalse result (All (λ f. length f ≤ most) faces.now → ⊥) }
@@ -61,7 +61,7 @@ fn have_at_most(faces: &[Corners], most: usize) -> bool
     true
 }
 
-// Whether each face has at least so many corners.
+// Whether each face has at least the given number of corners.
 fn have_at_least(faces: &[Corners], least: usize) -> bool
     ensures all { OnTrue result (All (λ f. least ≤ length f) faces.now) }
     ensures past { OnFalse result (All (λ f. least ≤ length f) faces.now → ⊥) }

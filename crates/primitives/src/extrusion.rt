@@ -95,7 +95,7 @@ fn is_same_point(p: [i64; 2], q: [i64; 2]) -> bool
     p[0] == q[0] && p[1] == q[1]
 }
 
-// The side over the way from one point to another one of so many.
+// The side over the way from one point to another, of the given number of points.
 fn side_of(alloc: Global, i: usize, next: usize, count: usize) -> Result<Corners, AllocError>
     requires i_there { i < count }
     requires next_there { next < count }
@@ -111,7 +111,7 @@ fn side_of(alloc: Global, i: usize, next: usize, count: usize) -> Result<Corners
     Ok(Corners::of(Vec::from_array(alloc, corners)?))
 }
 
-// So many corners from a first one on.
+// The given number of corners from a first one on.
 fn end_of(alloc: Global, first: u32, count: u32) -> Result<Corners, AllocError>
     requires { first + count ≤ 128 }
     ensures { IfOk result (λ face. face ≡ range_with_len first count) }

@@ -1,3 +1,5 @@
+//! A convex polygon in the plane, with what its type keeps.
+
 ghost use Rattle.std.specs.Prelude.{◌≡◌};
 ghost use Rattle.primitives.specs.Polygons.{IsFlatShape};
 

@@ -1,5 +1,5 @@
-//! Boxes, rectangles, polygons, extrusions and polyhedra, from their arguments or with their first fault, and the planes of a
-//! placed shape.
+//! Boxes, rectangles, polygons, extrusions and polyhedra, made from their arguments or refused with their first fault, and the
+//! planes of a placed shape.
 #![tactic(auto)]
 
 mod ahead;

@@ -1,3 +1,5 @@
+//! A convex shape as points and faces, with what its type keeps.
+
 ghost use Rattle.std.specs.Prelude.{◌≡◌, IfOk};
 ghost use Rattle.primitives.specs.Shapes.{IsShape, MakesShape};
 

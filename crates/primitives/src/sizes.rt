@@ -108,7 +108,7 @@ pub fn ends_of(side: i64, center: bool, unit: Unit) -> Ends
     }
 }
 
-// Where so many grid steps begin: at 0, or where centred at minus one half of them.
+// Where the given number of grid steps begin: at 0, or where centred at minus one half of them.
 fn low_of(steps: i64, center: bool) -> i64
     // (twice 2^53 - 1)
     requires { unsigned_abs steps ≤ 18014398509481982 }

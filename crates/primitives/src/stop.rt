@@ -1,3 +1,5 @@
+//! Why arguments make no shape: a fault of theirs, or out of memory.
+
 ghost use Rattle.std.specs.Prelude.{◌≡◌};
 
 use int_transform::StepFault;

@@ -57,7 +57,7 @@ pub fn push_ways(
     Ok(())
 }
 
-// The place that follows in a face of so many corners: the first follows the last.
+// The place that follows in a face of the given number of corners: the first follows the last.
 fn next_place(place: usize, corners: usize) -> usize
     requires { place < corners }
     ensures next { result ≡ next_in_face place corners }

@@ -6,22 +6,22 @@ use Rattle.plane_predicate.specs.declared.unit.Unit.{Unit as LengthUnit}
 use Rattle.plane_predicate.specs.Space.{Coefficients, Coordinates, value, orientation_seen_from, inner_product}
 use Rattle.plane_predicate.specs.Units.{grid_steps_per_unit}
 use Rattle.plane_predicate.specs.InUnits.{in_steps}
-use Rattle.plane_predicate.proofs.IntegerRing.{sums}
-use Rattle.plane_predicate.proofs.InUnits.{steps_above}
-use Rattle.plane_predicate.proofs.Identities.{combine, volume, turn_back, turn_round}
-use Rattle.plane_predicate.proofs.Signs.{signs, most_cancel, least_most, most_most}
-use Rattle.plane_polygon.proofs.FourPoints.{four_points}
-use Rattle.plane_polygon.proofs.Hull.{after_below, after_inside, after_last}
+use Rattle.plane_predicate.proofs.lemmas.IntegerRing.{sums}
+use Rattle.plane_predicate.proofs.lemmas.InUnits.{steps_above}
+use Rattle.plane_predicate.proofs.lemmas.Identities.{combine, volume, turn_back, turn_round}
+use Rattle.plane_predicate.proofs.lemmas.Signs.{signs, most_cancel, least_most, most_most}
+use Rattle.plane_polygon.proofs.lemmas.FourPoints.{four_points}
+use Rattle.plane_polygon.proofs.lemmas.Hull.{after_below, after_inside, after_last}
 use Rattle.csg_tree.specs.HalfSpaceTrees.{Tree, holds, sides_of}
 use Rattle.csg_tree.specs.ProperTrees.{HasFullLeaves}
 use Rattle.closed_surface.specs.Closed.{Edge, edges_of, corners_at}
 use Rattle.closed_surface.specs.Near.{indicator}
-use Rattle.closed_surface.proofs.Each.{Each, each_both, each_from_all, total_zero}
-use Rattle.closed_surface.proofs.Numbers.{below, at_least, zero_at_least, false_by}
+use Rattle.closed_surface.proofs.lemmas.Each.{Each, each_both, each_from_all, total_zero}
+use Rattle.closed_surface.proofs.lemmas.Numbers.{below, at_least, zero_at_least, false_by}
 use Rattle.off_text.specs.Boundaries.{face_corner, grid_corner, FacesPlane}
 use Rattle.off_text.specs.Reading.{IsPrintedFace}
 use Rattle.off_text.specs.Bounding.{IsBoundary, IsBoundaryFace}
-use Rattle.watertight.proofs.Inner.{turning_point}
+use Rattle.watertight.proofs.lemmas.Inner.{turning_point}
 use Rattle.ray_crossings.specs.Crossings.{orientation_to_face, passes_left, passes_right, passes_clear, goes_through, crossing}
 use Rattle.ray_crossings.specs.Positions.{IsOffFacePlanes}
 use Rattle.ray_crossings.proofs.Volumes.{volume_in_steps, value_between}

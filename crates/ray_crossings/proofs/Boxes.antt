@@ -6,26 +6,26 @@ use Rattle.plane_predicate.specs.declared.unit.Unit.{Unit as LengthUnit}
 use Rattle.plane_predicate.specs.Space.{Coefficients, Coordinates, value, inner_product, IsInReach, IsInWorld}
 use Rattle.plane_predicate.specs.Units.{grid_steps_per_unit}
 use Rattle.plane_predicate.specs.InUnits.{in_steps}
-use Rattle.plane_predicate.proofs.IntegerRing.{sums, one_mul}
-use Rattle.plane_predicate.proofs.InUnits.{steps_above}
-use Rattle.plane_predicate.proofs.Identities.{combine}
-use Rattle.plane_predicate.proofs.Polynomials.{Poly, var, num, plus, times, minus, ring}
-use Rattle.plane_predicate.proofs.Vectors.{Form, Place, form, place, of_plane, of_point, valueP, combineP}
-use Rattle.plane_predicate.proofs.SamePlanes.{directed_above}
-use Rattle.plane_predicate.proofs.Signs.{signs, pos_pos, pos_neg, least_least, least_most, most_cancel}
+use Rattle.plane_predicate.proofs.lemmas.IntegerRing.{sums, one_mul}
+use Rattle.plane_predicate.proofs.lemmas.InUnits.{steps_above}
+use Rattle.plane_predicate.proofs.lemmas.Identities.{combine}
+use Rattle.plane_predicate.proofs.lemmas.Polynomials.{Poly, var, num, plus, times, minus, ring}
+use Rattle.plane_predicate.proofs.lemmas.Vectors.{Form, Place, form, place, of_plane, of_point, valueP, combineP}
+use Rattle.plane_predicate.proofs.lemmas.SamePlanes.{directed_above}
+use Rattle.plane_predicate.proofs.lemmas.Signs.{signs, pos_pos, pos_neg, least_least, least_most, most_cancel}
 use Rattle.plane_polygon.specs.Boxes.{high_x, low_x, high_y, low_y, high_z, low_z}
 use Rattle.csg_tree.specs.HalfSpaceTrees.{Tree, IsPlaneOf}
 use Rattle.csg_tree.specs.ProperTrees.{HasFullLeaves}
 use Rattle.csg_tree.specs.Reach.{KeepsWithinReach}
 use Rattle.bsp_tree.specs.Cells.{world_box, AllBehind, IsInCell}
-use Rattle.bsp_tree.proofs.NearPoints.{direction, value_direction}
-use Rattle.bsp_tree.proofs.Openness.{more_above}
-use Rattle.bsp_tree.proofs.Worlds.{open_world, reach_in_box}
-use Rattle.closed_surface.proofs.Numbers.{at_most, at_least, zero_at_most, zero_at_least, not_zero_below, not_zero_above}
+use Rattle.bsp_tree.proofs.lemmas.NearPoints.{direction, value_direction}
+use Rattle.bsp_tree.proofs.lemmas.Openness.{more_above}
+use Rattle.bsp_tree.proofs.lemmas.Worlds.{open_world, reach_in_box}
+use Rattle.closed_surface.proofs.lemmas.Numbers.{at_most, at_least, zero_at_most, zero_at_least, not_zero_below, not_zero_above}
 use Rattle.off_text.specs.Bounding.{IsBoundary}
-use Rattle.off_text.proofs.BesideFaces.{face_plane_is_plane}
-use Rattle.watertight.proofs.Reach.{sides_by_reach}
-use Rattle.watertight.proofs.Vertices.{all_in_reach}
+use Rattle.off_text.proofs.lemmas.BesideFaces.{face_plane_is_plane}
+use Rattle.watertight.proofs.lemmas.Reach.{sides_by_reach}
+use Rattle.watertight.proofs.lemmas.Vertices.{all_in_reach}
 use Rattle.ray_crossings.specs.Positions.{IsOffFacePlanes}
 use Rattle.ray_crossings.specs.Limits.{IsInsideSolid, IsLimitOfInside}
 use Rattle.ray_crossings.proofs.Sides.{size_of, plane_size}
@@ -33,7 +33,7 @@ use Rattle.ray_crossings.proofs.Choice.{sizes, each_size, often_apart, once_left
 use Rattle.ray_crossings.proofs.Moving.{all_stay_behind}
 use Rattle.ray_crossings.proofs.Places.{all_limits}
 use Rattle.ray_crossings.proofs.Beyond.{alike}
-use Rattle.watertight.proofs.Nearby.{planes_in, each_of}
+use Rattle.watertight.proofs.lemmas.Nearby.{planes_in, each_of}
 
 -- ---- points within reach are strictly inside the box
 reach_world : (p : Coordinates) → IsInReach p → IsInWorld p

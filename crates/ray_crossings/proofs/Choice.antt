@@ -5,15 +5,15 @@ use Rattle.plane_predicate.specs.declared.unit.Unit.{Unit as LengthUnit}
 use Rattle.plane_predicate.specs.Space.{Coefficients, Coordinates, value}
 use Rattle.plane_predicate.specs.Units.{grid_steps_per_unit}
 use Rattle.plane_predicate.specs.InUnits.{in_steps}
-use Rattle.plane_predicate.proofs.IntegerRing.{sums, one_mul, zero_mul}
-use Rattle.plane_predicate.proofs.InUnits.{steps_above}
-use Rattle.plane_predicate.proofs.Identities.{combine}
-use Rattle.plane_predicate.proofs.Polynomials.{var, num, plus, times, minus, ring}
-use Rattle.plane_predicate.proofs.Vectors.{form, of_plane, valueP}
-use Rattle.plane_predicate.proofs.Signs.{signs, pos_pos, neg_neg, least_least, most_most}
-use Rattle.bsp_tree.proofs.Openness.{more_below, more_above}
-use Rattle.closed_surface.proofs.Numbers.{not_zero_below, not_zero_above, at_most, at_least}
-use Rattle.closed_surface.proofs.Each.{Each, each_weaker, each_both}
+use Rattle.plane_predicate.proofs.lemmas.IntegerRing.{sums, one_mul, zero_mul}
+use Rattle.plane_predicate.proofs.lemmas.InUnits.{steps_above}
+use Rattle.plane_predicate.proofs.lemmas.Identities.{combine}
+use Rattle.plane_predicate.proofs.lemmas.Polynomials.{var, num, plus, times, minus, ring}
+use Rattle.plane_predicate.proofs.lemmas.Vectors.{form, of_plane, valueP}
+use Rattle.plane_predicate.proofs.lemmas.Signs.{signs, pos_pos, neg_neg, least_least, most_most}
+use Rattle.bsp_tree.proofs.lemmas.Openness.{more_below, more_above}
+use Rattle.closed_surface.proofs.lemmas.Numbers.{not_zero_below, not_zero_above, at_most, at_least}
+use Rattle.closed_surface.proofs.lemmas.Each.{Each, each_weaker, each_both}
 use Rattle.ray_crossings.proofs.Volumes.{value_between}
 
 -- ---- sizes

@@ -3,16 +3,16 @@ use Rattle.std.proofs.Common.{◌≡◌, ◌≢◌, inl, inr, ℕ, suc, ◌+◌,
 use Rattle.std.specs.List.{list_all, list_any}
 use Rattle.std.proofs.lemmas.Bool.{and_parts, and_from, or_cases}
 use Rattle.plane_predicate.specs.Space.{Coordinates}
-use Rattle.plane_predicate.proofs.IntegerRing.{one_mul}
-use Rattle.plane_predicate.proofs.Identities.{combine, volume}
-use Rattle.plane_predicate.proofs.Polynomials.{var, plus, times, ring}
-use Rattle.plane_predicate.proofs.Vectors.{place, of_point, combineP}
-use Rattle.plane_predicate.proofs.Signs.{signs, pos_neg, neg_cancel}
-use Rattle.bsp_tree.proofs.Openness.{more_below, more_above}
+use Rattle.plane_predicate.proofs.lemmas.IntegerRing.{one_mul}
+use Rattle.plane_predicate.proofs.lemmas.Identities.{combine, volume}
+use Rattle.plane_predicate.proofs.lemmas.Polynomials.{var, plus, times, ring}
+use Rattle.plane_predicate.proofs.lemmas.Vectors.{place, of_point, combineP}
+use Rattle.plane_predicate.proofs.lemmas.Signs.{signs, pos_neg, neg_cancel}
+use Rattle.bsp_tree.proofs.lemmas.Openness.{more_below, more_above}
 use Rattle.closed_surface.specs.Closed.{Edge, edges_of}
 use Rattle.closed_surface.specs.Near.{indicator}
-use Rattle.closed_surface.proofs.Numbers.{below, not_below, below_back, at_most, at_least, same_tests}
-use Rattle.closed_surface.proofs.Each.{Each}
+use Rattle.closed_surface.proofs.lemmas.Numbers.{below, not_below, below_back, at_most, at_least, same_tests}
+use Rattle.closed_surface.proofs.lemmas.Each.{Each}
 use Rattle.ray_crossings.specs.Crossings.{orientation_to_face, passes_left, passes_right, passes_clear, goes_through, crossing, TouchesNoEdge}
 use Rattle.ray_crossings.proofs.Volumes.{volumeP, facing_turn}
 use Rattle.ray_crossings.proofs.Parts.{left_is, height_is}

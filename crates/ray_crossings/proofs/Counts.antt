@@ -10,8 +10,8 @@ use Rattle.plane_predicate.specs.Indices.{indices_below, index_after}
 use Rattle.plane_predicate.specs.Sums.{sum_over}
 use Rattle.closed_surface.specs.Near.{indicator}
 use Rattle.closed_surface.specs.Closed.{Edge, edges_of, corners_at}
-use Rattle.closed_surface.proofs.Counting.{edges_by_number}
-use Rattle.closed_surface.proofs.Numbers.{false_by}
+use Rattle.closed_surface.proofs.lemmas.Counting.{edges_by_number}
+use Rattle.closed_surface.proofs.lemmas.Numbers.{false_by}
 use Rattle.off_text.specs.Boundaries.{face_corner, OneExactlyWhere}
 
 -- ---- the edges of a face by their numbers

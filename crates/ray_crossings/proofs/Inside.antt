@@ -1,33 +1,33 @@
--- Near each corner of a face of a boundary there are points where the formula holds: from the corner a little towards the middle of
--- the face, then a little along the face so that no other face plane is met, and then a little behind it.
+-- Near each corner of a face of a boundary there are points where the formula holds: from the corner a little towards the
+-- middle of the face, then a little along the face so that no other face plane is met, and then a little behind it.
 use Rattle.std.proofs.Common.{◌≡◌, ◌≢◌, inl, inr, ℕ, suc, ◌+◌, ◌<◌, ◌≤◌, true, false, not, List, [], ◌∷◌, length, slice_index, slice_index_or, sym, ap, ◌∙◌, subst, arith, ◌-◌, ℤ, pos, ◌+ℤ◌, ◌-ℤ◌, ◌*ℤ◌, ◌<ℤ◌, neg_ℤ, unsigned_abs}
 use Rattle.std.proofs.Math.IntN.{*ℤ-zero}
 use Rattle.std.proofs.lemmas.Bool.{and_parts}
 use Rattle.plane_predicate.specs.declared.unit.Unit.{Unit as LengthUnit}
 use Rattle.plane_predicate.specs.Space.{Coefficients, Coordinates, value, inner_product, opposite_of, is_same, IsInWorld, IsPlane}
 use Rattle.plane_predicate.specs.InUnits.{in_steps}
-use Rattle.plane_predicate.proofs.IntegerRing.{sums}
-use Rattle.plane_predicate.proofs.Identities.{combine, moved as point_behind, value_moved}
-use Rattle.plane_predicate.proofs.Opposites.{size_of_negative}
-use Rattle.plane_predicate.proofs.SamePlanes.{directed_above}
-use Rattle.plane_predicate.proofs.Signs.{signs, pos_pos}
+use Rattle.plane_predicate.proofs.lemmas.IntegerRing.{sums}
+use Rattle.plane_predicate.proofs.lemmas.Identities.{combine, moved as point_behind, value_moved}
+use Rattle.plane_predicate.proofs.lemmas.Opposites.{size_of_negative}
+use Rattle.plane_predicate.proofs.lemmas.SamePlanes.{directed_above}
+use Rattle.plane_predicate.proofs.lemmas.Signs.{signs, pos_pos}
 use Rattle.csg_tree.specs.HalfSpaceTrees.{Tree, holds, sides_of, IsPlaneOf}
 use Rattle.csg_tree.specs.FacePlanes.{IsFacePlane, IsOnOneFacePlane, sides_just_behind, sides_just_ahead, is_boundary_at}
 use Rattle.csg_tree.specs.ProperTrees.{HasFullLeaves}
 use Rattle.bsp_tree.specs.Cells.{AllBehind, IsInCell}
-use Rattle.bsp_tree.proofs.Openness.{more_below, more_above}
-use Rattle.bsp_tree.proofs.Opposites.{opposite_above}
-use Rattle.bsp_tree.proofs.SameNumbers.{same_equal, not_same}
+use Rattle.bsp_tree.proofs.lemmas.Openness.{more_below, more_above}
+use Rattle.bsp_tree.proofs.lemmas.Opposites.{opposite_above}
+use Rattle.bsp_tree.proofs.lemmas.SameNumbers.{same_equal, not_same}
 use Rattle.closed_surface.specs.Ways.{Direction, slope}
 use Rattle.closed_surface.specs.Near.{near_point}
-use Rattle.closed_surface.proofs.Near.{near_behind, near_weight}
-use Rattle.closed_surface.proofs.Numbers.{below, not_below, at_least, not_zero_below, not_zero_above}
-use Rattle.closed_surface.proofs.Each.{Each}
+use Rattle.closed_surface.proofs.lemmas.Near.{near_behind, near_weight}
+use Rattle.closed_surface.proofs.lemmas.Numbers.{below, not_below, at_least, not_zero_below, not_zero_above}
+use Rattle.closed_surface.proofs.lemmas.Each.{Each}
 use Rattle.off_text.specs.Boundaries.{face_corner, grid_corner, FacesPlane, FaceCovers}
 use Rattle.off_text.specs.Bounding.{IsBoundary}
-use Rattle.off_text.proofs.BesideFaces.{face_plane_is_plane}
-use Rattle.watertight.proofs.Boxed.{corner_boxed}
-use Rattle.watertight.proofs.Nearby.{several, moved, is_where, face_slopes, still_covers, way_out, own_slopes, step_flat, alone_near, planes_in, each_of}
+use Rattle.off_text.proofs.lemmas.BesideFaces.{face_plane_is_plane}
+use Rattle.watertight.proofs.lemmas.Boxed.{corner_boxed}
+use Rattle.watertight.proofs.lemmas.Nearby.{several, moved, is_where, face_slopes, still_covers, way_out, own_slopes, step_flat, alone_near, planes_in, each_of}
 use Rattle.ray_crossings.proofs.Volumes.{value_between}
 use Rattle.ray_crossings.proofs.Sides.{holds_alike, between_world}
 use Rattle.ray_crossings.proofs.Single.{pick}
@@ -64,7 +64,7 @@ one_above = omega (arith, sums)
 
 -- ---- steps that stay behind planes
 -- along a direction
-along_behind : (number : ℕ) (q : Coordinates) (u : Direction) (ms : List Coefficients) → Each (λ m. unsigned_abs (slope m u) ≤ number) ms →
+pub along_behind : (number : ℕ) (q : Coordinates) (u : Direction) (ms : List Coefficients) → Each (λ m. unsigned_abs (slope m u) ≤ number) ms →
     AllBehind ms q → AllBehind ms (near_point number q u)
 along_behind number q u [] e h = tt
 along_behind number q u (m ∷ ms) e h = (near_behind m number q u e.0 h.0, along_behind number q u ms e.1 h.1)
@@ -118,7 +118,7 @@ module _ (f : Tree) (n : Coefficients) (directed : pos 0 <ℤ inner_product n n)
         ∙ sym (not_below (value m just_inside) (pos 0) (at_least (value m just_inside) (behind_above m n enough q (plane_enough m h) a)))
   ]
 
-  inside_sides : (m : Coefficients) → IsPlaneOf m f → sides_just_behind n q m ≡ sides_of just_inside m
+  pub inside_sides : (m : Coefficients) → IsPlaneOf m f → sides_just_behind n q m ≡ sides_of just_inside m
   inside_sides m h =
       let own = own_below n enough q directed one.on in
       pick (is_same m n) (is_same m (opposite_of n)) true false (sides_of q m) (sides_of just_inside m)

@@ -15,3 +15,5 @@ pub mod Inside
 pub mod Places
 pub mod Beyond
 pub mod Boxes
+pub mod Tiles
+pub mod Corner

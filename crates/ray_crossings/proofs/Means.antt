@@ -5,13 +5,13 @@ use Rattle.std.proofs.lemmas.Bool.Decides.{eqb_tells}
 use Rattle.plane_predicate.specs.declared.unit.Unit.{Unit as LengthUnit}
 use Rattle.plane_predicate.specs.Space.{Coefficients, Coordinates, value, orientation_seen_from, IsInWorld}
 use Rattle.plane_predicate.specs.InUnits.{in_steps}
-use Rattle.plane_predicate.proofs.IntegerRing.{sums}
-use Rattle.plane_predicate.proofs.Identities.{combine, turn_round}
-use Rattle.plane_predicate.proofs.Polynomials.{num, ring}
-use Rattle.plane_predicate.proofs.Vectors.{form, place, of_plane, of_point, turnP}
-use Rattle.plane_predicate.proofs.Signs.{pos_pos, least_least}
-use Rattle.plane_polygon.proofs.Hull.{after_below, after_other, after_twice}
-use Rattle.closed_surface.proofs.Numbers.{at_least, zero_at_least}
+use Rattle.plane_predicate.proofs.lemmas.IntegerRing.{sums}
+use Rattle.plane_predicate.proofs.lemmas.Identities.{combine, turn_round}
+use Rattle.plane_predicate.proofs.lemmas.Polynomials.{num, ring}
+use Rattle.plane_predicate.proofs.lemmas.Vectors.{form, place, of_plane, of_point, turnP}
+use Rattle.plane_predicate.proofs.lemmas.Signs.{pos_pos, least_least}
+use Rattle.plane_polygon.proofs.lemmas.Hull.{after_below, after_other, after_twice}
+use Rattle.closed_surface.proofs.lemmas.Numbers.{at_least, zero_at_least}
 use Rattle.off_text.specs.Boundaries.{face_corner, grid_corner, FacesPlane}
 use Rattle.ray_crossings.proofs.Volumes.{value_between, turn_between}
 use Rattle.ray_crossings.proofs.Sides.{between_world}

@@ -1,5 +1,5 @@
--- A way that leads from behind a plane to ahead of it goes through a face that faces the plane exactly where the face covers the
--- point at which the way meets the plane.
+-- A way that leads from behind a plane to ahead of it goes through a face that faces the plane exactly where the face covers
+-- the point at which the way meets the plane.
 use Rattle.std.proofs.Common.{◌≡◌, ℕ, zero, suc, ◌<◌, ◌≤◌, true, ◌&&◌, List, [], ◌∷◌, length, slice_index_or, sym, ap, ◌∙◌, subst, arith, ℤ, pos, ◌+ℤ◌, ◌-ℤ◌, ◌*ℤ◌, ◌<ℤ◌, neg_ℤ, int_lt}
 use Rattle.std.specs.List.{list_all}
 use Rattle.std.proofs.Math.IntN.{*ℤ-zero}
@@ -8,16 +8,16 @@ use Rattle.plane_predicate.specs.declared.unit.Unit.{Unit as LengthUnit}
 use Rattle.plane_predicate.specs.Space.{Coefficients, Coordinates, value, orientation_seen_from, inner_product}
 use Rattle.plane_predicate.specs.Units.{grid_steps_per_unit}
 use Rattle.plane_predicate.specs.InUnits.{in_steps}
-use Rattle.plane_predicate.proofs.IntegerRing.{sums, mul_comm_ℤ, mul_neg_left}
-use Rattle.plane_predicate.proofs.InUnits.{steps_above}
-use Rattle.plane_predicate.proofs.Identities.{combine, volume, dependent}
-use Rattle.plane_predicate.proofs.Signs.{pos_pos, pos_neg, pos_cancel, neg_cancel}
-use Rattle.plane_polygon.proofs.Hull.{after_inside, after_below}
+use Rattle.plane_predicate.proofs.lemmas.IntegerRing.{sums, mul_comm_ℤ, mul_neg_left}
+use Rattle.plane_predicate.proofs.lemmas.InUnits.{steps_above}
+use Rattle.plane_predicate.proofs.lemmas.Identities.{combine, volume, dependent}
+use Rattle.plane_predicate.proofs.lemmas.Signs.{pos_pos, pos_neg, pos_cancel, neg_cancel}
+use Rattle.plane_polygon.proofs.lemmas.Hull.{after_inside, after_below}
 use Rattle.closed_surface.specs.Closed.{edges_of, corners_at}
-use Rattle.closed_surface.proofs.Numbers.{below, below_back}
-use Rattle.closed_surface.proofs.Each.{Each}
+use Rattle.closed_surface.proofs.lemmas.Numbers.{below, below_back}
+use Rattle.closed_surface.proofs.lemmas.Each.{Each}
 use Rattle.off_text.specs.Boundaries.{face_corner, grid_corner, FacesPlane, FaceCovers}
-use Rattle.off_text.proofs.Rounded.{below_three, not_two}
+use Rattle.off_text.proofs.lemmas.Rounded.{below_three, not_two}
 use Rattle.ray_crossings.specs.Crossings.{plane_facing, orientation_to_face, passes_left, goes_through}
 use Rattle.ray_crossings.proofs.Volumes.{height_volume, volume_in_steps, value_between, turn_between}
 use Rattle.ray_crossings.proofs.Parts.{times_above, left_is}

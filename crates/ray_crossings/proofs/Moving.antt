@@ -4,25 +4,25 @@ use Rattle.std.proofs.Math.IntN.{*ℤ-zero}
 use Rattle.plane_predicate.specs.declared.unit.Unit.{Unit as LengthUnit}
 use Rattle.plane_predicate.specs.Space.{Coefficients, Coordinates, value}
 use Rattle.plane_predicate.specs.InUnits.{in_steps}
-use Rattle.plane_predicate.proofs.IntegerRing.{sums, one_mul, mul_neg_left}
-use Rattle.plane_predicate.proofs.Identities.{combine}
-use Rattle.plane_predicate.proofs.Polynomials.{var, plus, times, minus, ring}
-use Rattle.plane_predicate.proofs.Vectors.{form, place, of_plane, of_point, valueP}
-use Rattle.plane_predicate.proofs.SamePlanes.{equal_or_opposite}
-use Rattle.plane_predicate.proofs.Signs.{signs, zero_cancel}
+use Rattle.plane_predicate.proofs.lemmas.IntegerRing.{sums, one_mul, mul_neg_left}
+use Rattle.plane_predicate.proofs.lemmas.Identities.{combine}
+use Rattle.plane_predicate.proofs.lemmas.Polynomials.{var, plus, times, minus, ring}
+use Rattle.plane_predicate.proofs.lemmas.Vectors.{form, place, of_plane, of_point, valueP}
+use Rattle.plane_predicate.proofs.lemmas.SamePlanes.{equal_or_opposite}
+use Rattle.plane_predicate.proofs.lemmas.Signs.{signs, zero_cancel}
 use Rattle.csg_tree.specs.HalfSpaceTrees.{Tree, holds, sides_of, IsPlaneOf}
 use Rattle.csg_tree.specs.ProperTrees.{HasFullLeaves}
 use Rattle.bsp_tree.specs.Cells.{world_box, AllBehind}
-use Rattle.bsp_tree.proofs.Openness.{more_below, more_above}
-use Rattle.bsp_tree.proofs.Worlds.{open_world}
+use Rattle.bsp_tree.proofs.lemmas.Openness.{more_below, more_above}
+use Rattle.bsp_tree.proofs.lemmas.Worlds.{open_world}
 use Rattle.closed_surface.specs.Closed.{corners_at}
 use Rattle.closed_surface.specs.Near.{indicator}
-use Rattle.closed_surface.proofs.Each.{Each, each_both, each_left, each_right, each_from_all, total_same}
-use Rattle.closed_surface.proofs.Lines.{IsEither}
-use Rattle.closed_surface.proofs.Numbers.{below, not_below, at_least, not_zero_below, not_zero_above}
+use Rattle.closed_surface.proofs.lemmas.Each.{Each, each_both, each_left, each_right, each_from_all, total_same}
+use Rattle.closed_surface.proofs.lemmas.Lines.{IsEither}
+use Rattle.closed_surface.proofs.lemmas.Numbers.{below, not_below, at_least, not_zero_below, not_zero_above}
 use Rattle.off_text.specs.Reading.{IsPrintedFace}
 use Rattle.off_text.specs.Bounding.{IsBoundary, IsBoundaryFace}
-use Rattle.off_text.proofs.BesideFaces.{face_plane_is_plane}
+use Rattle.off_text.proofs.lemmas.BesideFaces.{face_plane_is_plane}
 use Rattle.ray_crossings.specs.Crossings.{crossing, TouchesNoEdge}
 use Rattle.ray_crossings.specs.Positions.{IsOffFacePlanes}
 use Rattle.ray_crossings.proofs.Sides.{holds_alike, size_of, plane_size, IsAlone}
@@ -30,7 +30,7 @@ use Rattle.ray_crossings.proofs.Single.{height_off, Tells}
 use Rattle.ray_crossings.proofs.Telling.{told_alone}
 use Rattle.ray_crossings.proofs.Choice.{sizes, each_size, often_apart, once_left, value_often, zero_form, IsClearAt, IsChosen, chosen}
 use Rattle.ray_crossings.proofs.Clear.{face_size, crossing_same}
-use Rattle.watertight.proofs.Nearby.{planes_in, each_of}
+use Rattle.watertight.proofs.lemmas.Nearby.{planes_in, each_of}
 
 -- ---- numbers
 zero_factor : (x y : ℤ) → x ≢ pos 0 → x *ℤ y ≡ pos 0 → y ≡ pos 0

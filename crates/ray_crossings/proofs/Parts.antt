@@ -3,12 +3,12 @@ use Rattle.std.proofs.Common.{◌≡◌, ◌≢◌, inl, inr, Bool, true, false,
 use Rattle.std.specs.List.{list_all}
 use Rattle.std.proofs.Math.IntN.{*ℤ-zero}
 use Rattle.plane_predicate.specs.Space.{Coordinates}
-use Rattle.plane_predicate.proofs.IntegerRing.{sums}
-use Rattle.plane_predicate.proofs.Identities.{combine, volume}
-use Rattle.plane_predicate.proofs.Signs.{signs, pos_pos, pos_neg, pos_cancel}
+use Rattle.plane_predicate.proofs.lemmas.IntegerRing.{sums}
+use Rattle.plane_predicate.proofs.lemmas.Identities.{combine, volume}
+use Rattle.plane_predicate.proofs.lemmas.Signs.{signs, pos_pos, pos_neg, pos_cancel}
 use Rattle.closed_surface.specs.Closed.{Edge, edges_of}
 use Rattle.closed_surface.specs.Near.{indicator}
-use Rattle.closed_surface.proofs.Numbers.{below, not_below, below_back, same_tests, at_least, at_most}
+use Rattle.closed_surface.proofs.lemmas.Numbers.{below, not_below, below_back, same_tests, at_least, at_most}
 use Rattle.ray_crossings.specs.Crossings.{orientation_to_face, passes_left, goes_through, crossing}
 use Rattle.ray_crossings.proofs.Volumes.{facing_turn, height_between, first_part, second_part}
 

@@ -4,16 +4,16 @@ use Rattle.std.proofs.Math.IntN.{*ℤ-zero}
 use Rattle.plane_predicate.specs.declared.unit.Unit.{Unit as LengthUnit}
 use Rattle.plane_predicate.specs.Space.{Coefficients, Coordinates, value, opposite_of}
 use Rattle.plane_predicate.specs.InUnits.{in_steps}
-use Rattle.plane_predicate.proofs.IntegerRing.{sums}
-use Rattle.plane_predicate.proofs.Identities.{combine}
-use Rattle.plane_predicate.proofs.Polynomials.{var, num, plus, times, ring}
-use Rattle.plane_predicate.proofs.Signs.{signs, pos_pos}
+use Rattle.plane_predicate.proofs.lemmas.IntegerRing.{sums}
+use Rattle.plane_predicate.proofs.lemmas.Identities.{combine}
+use Rattle.plane_predicate.proofs.lemmas.Polynomials.{var, num, plus, times, ring}
+use Rattle.plane_predicate.proofs.lemmas.Signs.{signs, pos_pos}
 use Rattle.csg_tree.specs.HalfSpaceTrees.{Tree, IsPlaneOf}
 use Rattle.csg_tree.specs.FacePlanes.{IsFacePlane}
-use Rattle.bsp_tree.proofs.Openness.{more_below, more_above}
-use Rattle.bsp_tree.proofs.Opposites.{opposite_zero, opposite_back}
-use Rattle.closed_surface.proofs.Lines.{IsEither, is_either, either_parts, either_is}
-use Rattle.closed_surface.proofs.Numbers.{not_zero_below, not_zero_above}
+use Rattle.bsp_tree.proofs.lemmas.Openness.{more_below, more_above}
+use Rattle.bsp_tree.proofs.lemmas.Opposites.{opposite_zero, opposite_back}
+use Rattle.closed_surface.proofs.lemmas.Lines.{IsEither, is_either, either_parts, either_is}
+use Rattle.closed_surface.proofs.lemmas.Numbers.{not_zero_below, not_zero_above}
 use Rattle.ray_crossings.specs.Positions.{IsOffFacePlanes}
 use Rattle.ray_crossings.proofs.Volumes.{value_between}
 use Rattle.ray_crossings.proofs.Meets.{on_meeting}

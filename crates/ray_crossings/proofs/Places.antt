@@ -6,7 +6,7 @@ use Rattle.plane_predicate.specs.Space.{Coordinates, IsInWorld}
 use Rattle.plane_predicate.specs.InUnits.{in_steps}
 use Rattle.csg_tree.specs.HalfSpaceTrees.{Tree}
 use Rattle.csg_tree.specs.ProperTrees.{HasFullLeaves}
-use Rattle.closed_surface.proofs.Each.{each_from_all}
+use Rattle.closed_surface.proofs.lemmas.Each.{each_from_all}
 use Rattle.off_text.specs.Bounding.{IsBoundary}
 use Rattle.ray_crossings.specs.Limits.{IsLimitOfInside}
 use Rattle.ray_crossings.proofs.Inside.{corner_limit}

@@ -2,15 +2,15 @@
 -- and a tetrahedron.
 use Rattle.std.proofs.Common.{◌≡◌, ◌≢◌, inl, inr, ℕ, true, false, List, [], ◌∷◌, map, refl, arith, ℤ, pos, negsuc}
 use Rattle.plane_predicate.specs.Space.{Coefficients, Coordinates, value}
-use Rattle.plane_predicate.proofs.IntegerRing.{sums}
+use Rattle.plane_predicate.proofs.lemmas.IntegerRing.{sums}
 use Rattle.csg_tree.specs.HalfSpaceTrees.{Tree, leaf, tree_join, holds, sides_of}
 use Rattle.csg_tree.specs.declared.op.Op.TheVariants.{Union, Difference}
 use Rattle.closed_surface.specs.Closed.{corners_at}
-use Rattle.closed_surface.proofs.Each.{Each}
-use Rattle.closed_surface.proofs.Numbers.{not_zero_below}
+use Rattle.closed_surface.proofs.lemmas.Each.{Each}
+use Rattle.closed_surface.proofs.lemmas.Numbers.{not_zero_below}
 use Rattle.ray_crossings.specs.Limits.{IsInsideSolid}
 use Rattle.ray_crossings.specs.Crossings.{orientation_to_face, passes_clear, crossing, crossings}
-use Rattle.watertight.proofs.Nearby.{planes_in, each_of}
+use Rattle.watertight.proofs.lemmas.Nearby.{planes_in, each_of}
 
 abbrev point : ℤ → ℤ → ℤ → ℤ → Coordinates
 point x y z w = record { x = x; y = y; z = z; w = w }

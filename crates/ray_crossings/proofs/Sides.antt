@@ -5,23 +5,23 @@ use Rattle.std.specs.List.{list_all}
 use Rattle.plane_predicate.specs.declared.unit.Unit.{Unit as LengthUnit}
 use Rattle.plane_predicate.specs.Space.{Coefficients, Coordinates, value, opposite_of, IsInWorld}
 use Rattle.plane_predicate.specs.InUnits.{in_steps}
-use Rattle.plane_predicate.proofs.IntegerRing.{sums}
-use Rattle.plane_predicate.proofs.Identities.{combine}
-use Rattle.plane_predicate.proofs.Opposites.{size_of_negative}
-use Rattle.plane_predicate.proofs.Polynomials.{var, plus, times, ring}
-use Rattle.plane_predicate.proofs.Signs.{pos_pos}
-use Rattle.plane_predicate.proofs.Vectors.{value-opposite}
+use Rattle.plane_predicate.proofs.lemmas.IntegerRing.{sums}
+use Rattle.plane_predicate.proofs.lemmas.Identities.{combine}
+use Rattle.plane_predicate.proofs.lemmas.Opposites.{size_of_negative}
+use Rattle.plane_predicate.proofs.lemmas.Polynomials.{var, plus, times, ring}
+use Rattle.plane_predicate.proofs.lemmas.Signs.{pos_pos}
+use Rattle.plane_predicate.proofs.lemmas.Vectors.{value-opposite}
 use Rattle.csg_tree.specs.HalfSpaceTrees.{Tree, nothing, leaf, tree_join, SideAssignment, holds, truth_of_join, IsPlaneOf}
 use Rattle.csg_tree.specs.FacePlanes.{IsFacePlane}
 use Rattle.bsp_tree.specs.Cells.{world_box, AllBehind}
-use Rattle.bsp_tree.proofs.Opposites.{opposite_zero, opposite_twice}
-use Rattle.bsp_tree.proofs.Worlds.{open_world}
-use Rattle.closed_surface.proofs.Each.{Each}
-use Rattle.closed_surface.proofs.Lines.{IsEither}
+use Rattle.bsp_tree.proofs.lemmas.Opposites.{opposite_zero, opposite_twice}
+use Rattle.bsp_tree.proofs.lemmas.Worlds.{open_world}
+use Rattle.closed_surface.proofs.lemmas.Each.{Each}
+use Rattle.closed_surface.proofs.lemmas.Lines.{IsEither}
 use Rattle.ray_crossings.specs.Positions.{IsOffFacePlanes}
 use Rattle.ray_crossings.proofs.Volumes.{value_between}
 use Rattle.ray_crossings.proofs.Parts.{sum_below, sum_above}
-use Rattle.watertight.proofs.Nearby.{planes_in, each_of}
+use Rattle.watertight.proofs.lemmas.Nearby.{planes_in, each_of}
 
 -- ---- a formula holds alike under assignments that give its planes the same sides
 all_alike : (planes : List Coefficients) (a b : SideAssignment) → ((m : Coefficients) → Contains planes m → a m ≡ b m) → list_all a planes ≡ list_all b planes

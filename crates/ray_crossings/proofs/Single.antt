@@ -5,25 +5,25 @@ use Rattle.std.proofs.lemmas.Bool.{and_parts}
 use Rattle.plane_predicate.specs.declared.unit.Unit.{Unit as LengthUnit}
 use Rattle.plane_predicate.specs.Space.{Coefficients, Coordinates, value, inner_product, opposite_of, is_same}
 use Rattle.plane_predicate.specs.InUnits.{in_steps}
-use Rattle.plane_predicate.proofs.IntegerRing.{sums}
-use Rattle.plane_predicate.proofs.Identities.{combine}
-use Rattle.plane_predicate.proofs.SamePlanes.{directed_above}
-use Rattle.plane_predicate.proofs.Signs.{signs}
+use Rattle.plane_predicate.proofs.lemmas.IntegerRing.{sums}
+use Rattle.plane_predicate.proofs.lemmas.Identities.{combine}
+use Rattle.plane_predicate.proofs.lemmas.SamePlanes.{directed_above}
+use Rattle.plane_predicate.proofs.lemmas.Signs.{signs}
 use Rattle.csg_tree.specs.HalfSpaceTrees.{Tree, holds, sides_of, IsPlaneOf}
 use Rattle.csg_tree.specs.FacePlanes.{IsFacePlane, IsOnOneFacePlane, sides_just_behind, sides_just_ahead, is_boundary_at}
 use Rattle.csg_tree.specs.ProperTrees.{HasFullLeaves}
-use Rattle.bsp_tree.proofs.Opposites.{opposite_above, opposite_below}
-use Rattle.bsp_tree.proofs.SameNumbers.{same_equal, not_same}
+use Rattle.bsp_tree.proofs.lemmas.Opposites.{opposite_above, opposite_below}
+use Rattle.bsp_tree.proofs.lemmas.SameNumbers.{same_equal, not_same}
 use Rattle.plane_predicate.specs.Sums.{sum_over}
 use Rattle.closed_surface.specs.Closed.{edges_of, corners_at}
 use Rattle.closed_surface.specs.Near.{indicator}
-use Rattle.closed_surface.proofs.Each.{Each, each_weaker, each_from_all, total_difference}
-use Rattle.closed_surface.proofs.Lines.{IsEither, is_either, either_parts, either_is}
-use Rattle.closed_surface.proofs.Numbers.{below, not_below, below_back, at_least, not_zero_below, not_zero_above, not_both}
+use Rattle.closed_surface.proofs.lemmas.Each.{Each, each_weaker, each_from_all, total_difference}
+use Rattle.closed_surface.proofs.lemmas.Lines.{IsEither, is_either, either_parts, either_is}
+use Rattle.closed_surface.proofs.lemmas.Numbers.{below, not_below, below_back, at_least, not_zero_below, not_zero_above, not_both}
 use Rattle.off_text.specs.Reading.{IsPrintedVertex}
 use Rattle.off_text.specs.Boundaries.{FacesPlane, FaceCovers}
 use Rattle.off_text.specs.Bounding.{IsBoundary}
-use Rattle.off_text.proofs.BesideFaces.{face_plane_is_plane}
+use Rattle.off_text.proofs.lemmas.BesideFaces.{face_plane_is_plane}
 use Rattle.ray_crossings.specs.Crossings.{orientation_to_face, passes_left, goes_through, crossings}
 use Rattle.ray_crossings.specs.Positions.{IsOffFacePlanes}
 use Rattle.ray_crossings.proofs.Volumes.{value_between}

@@ -3,20 +3,20 @@ use Rattle.std.proofs.Common.{◌≡◌, ◌≢◌, ◌⊎◌, inl, inr, ℕ, Bo
 use Rattle.plane_predicate.specs.declared.unit.Unit.{Unit as LengthUnit}
 use Rattle.plane_predicate.specs.Space.{Coefficients, Coordinates, value, opposite_of}
 use Rattle.plane_predicate.specs.InUnits.{in_steps}
-use Rattle.plane_predicate.proofs.IntegerRing.{sums}
-use Rattle.plane_predicate.proofs.Identities.{combine}
-use Rattle.plane_predicate.proofs.Polynomials.{var, num, plus, times, minus, ring}
-use Rattle.plane_predicate.proofs.Signs.{signs, pos_pos, zero_cancel}
-use Rattle.plane_predicate.proofs.Vectors.{value-opposite}
+use Rattle.plane_predicate.proofs.lemmas.IntegerRing.{sums}
+use Rattle.plane_predicate.proofs.lemmas.Identities.{combine}
+use Rattle.plane_predicate.proofs.lemmas.Polynomials.{var, num, plus, times, minus, ring}
+use Rattle.plane_predicate.proofs.lemmas.Signs.{signs, pos_pos, zero_cancel}
+use Rattle.plane_predicate.proofs.lemmas.Vectors.{value-opposite}
 use Rattle.csg_tree.specs.HalfSpaceTrees.{Tree, holds, sides_of, IsPlaneOf}
 use Rattle.csg_tree.specs.FacePlanes.{IsFacePlane}
 use Rattle.csg_tree.specs.ProperTrees.{HasFullLeaves}
-use Rattle.bsp_tree.proofs.Opposites.{opposite_above, opposite_below, behind_opposite_above}
+use Rattle.bsp_tree.proofs.lemmas.Opposites.{opposite_above, opposite_below, behind_opposite_above}
 use Rattle.closed_surface.specs.Closed.{corners_at}
 use Rattle.closed_surface.specs.Near.{indicator}
-use Rattle.closed_surface.proofs.Each.{Each, each_weaker, each_both, each_from_all, total_same, total_sum, total_zero}
-use Rattle.closed_surface.proofs.Lines.{IsEither, AmongEither, is_either, either_parts}
-use Rattle.closed_surface.proofs.Numbers.{below, not_below, at_least, not_both, false_by}
+use Rattle.closed_surface.proofs.lemmas.Each.{Each, each_weaker, each_both, each_from_all, total_same, total_sum, total_zero}
+use Rattle.closed_surface.proofs.lemmas.Lines.{IsEither, AmongEither, is_either, either_parts}
+use Rattle.closed_surface.proofs.lemmas.Numbers.{below, not_below, at_least, not_both, false_by}
 use Rattle.off_text.specs.Reading.{IsPrintedFace}
 use Rattle.off_text.specs.Bounding.{IsBoundary, IsBoundaryFace}
 use Rattle.ray_crossings.specs.Crossings.{orientation_to_face, goes_through, crossing, crossings}
@@ -26,7 +26,7 @@ use Rattle.ray_crossings.proofs.Parts.{sum_below, sum_above, other_end, crossing
 use Rattle.ray_crossings.proofs.Sides.{holds_alike, opposite_face, opposite_first, opposite_either, face_off, IsAlone, alone_first, alone_second}
 use Rattle.ray_crossings.proofs.Single.{height_off, parted, Tells, single}
 use Rattle.ray_crossings.proofs.Past.{meeting, MeetsAlone, IsPast, past, past_off, meets_alone, no_either}
-use Rattle.watertight.proofs.Nearby.{planes_in, each_is, each_of}
+use Rattle.watertight.proofs.lemmas.Nearby.{planes_in, each_is, each_of}
 
 -- ---- numbers
 joined_falls : (x y z p q r : ℤ) → x ≡ y +ℤ z → y ≡ p -ℤ q → z ≡ q -ℤ r → x ≡ p -ℤ r

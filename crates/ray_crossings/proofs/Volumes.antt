@@ -4,9 +4,9 @@ use Rattle.plane_predicate.specs.declared.unit.Unit.{Unit as LengthUnit}
 use Rattle.plane_predicate.specs.Space.{Coefficients, Coordinates, value, orientation_seen_from}
 use Rattle.plane_predicate.specs.InUnits.{in_steps}
 use Rattle.plane_predicate.specs.Units.{grid_steps_per_unit}
-use Rattle.plane_predicate.proofs.Identities.{combine, volume}
-use Rattle.plane_predicate.proofs.Polynomials.{Poly, var, num, plus, times, minus, ring}
-use Rattle.plane_predicate.proofs.Vectors.{Form, Place, form, place, of_plane, of_point, valueP, turnP, determinantP, combineP}
+use Rattle.plane_predicate.proofs.lemmas.Identities.{combine, volume}
+use Rattle.plane_predicate.proofs.lemmas.Polynomials.{Poly, var, num, plus, times, minus, ring}
+use Rattle.plane_predicate.proofs.lemmas.Vectors.{Form, Place, form, place, of_plane, of_point, valueP, turnP, determinantP, combineP}
 use Rattle.ray_crossings.specs.Crossings.{plane_facing}
 
 abbrev facingP : Place → Place → Form

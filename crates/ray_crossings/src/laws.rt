@@ -2,18 +2,23 @@
 
 ghost use Rattle.std.specs.Prelude.{◌≡◌, ℕ, ◌-ℤ◌, List, All, pos, negsuc, ◌<ℤ◌, ◌≤ℤ◌};
 ghost use Rattle.plane_predicate.specs.declared.unit.Unit.{Unit as LengthUnit};
-ghost use Rattle.plane_predicate.specs.Space.{Coordinates, Coefficients, value, IsInWorld};
+ghost use Rattle.plane_predicate.specs.Space.{Coordinates, Coefficients, value, IsInWorld, origin};
 ghost use Rattle.plane_predicate.specs.InUnits.{in_steps};
-ghost use Rattle.csg_tree.specs.HalfSpaceTrees.{Tree, holds, sides_of};
+ghost use Rattle.csg_tree.specs.declared.op.Op.TheVariants.{Union};
+ghost use Rattle.csg_tree.specs.HalfSpaceTrees.{Tree, tree_join, holds, sides_of};
+ghost use Rattle.csg_tree.specs.FacePlanes.{IsOnOneFacePlane};
 ghost use Rattle.csg_tree.specs.ProperTrees.{IsProper};
 ghost use Rattle.csg_tree.specs.Reach.{KeepsWithinReach};
+ghost use Rattle.bsp_tree.specs.Cells.{IsInCell};
 ghost use Rattle.closed_surface.specs.Closed.{corners_at};
 ghost use Rattle.closed_surface.specs.Near.{indicator};
 ghost use Rattle.off_text.specs.Bounding.{IsBoundary};
 ghost use Rattle.ray_crossings.specs.Crossings.{crossing, crossings, TouchesNoEdge};
 ghost use Rattle.ray_crossings.specs.Positions.{IsInGeneralPosition, IsOffFacePlanes};
 ghost use Rattle.ray_crossings.specs.Limits.{IsInsideSolid, IsLimitOfInside};
+ghost use Rattle.ray_crossings.specs.Tiles.{HoldAlikeInside, CoverAlike};
 ghost use Rattle.ray_crossings.specs.Worked.{worked_triangle, point_below, point_above};
+ghost use Rattle.ray_crossings.specs.Worked.{worked_cube, point_beside};
 
 /// What a ray tells: of a way in general position, or one that touches no edge, between points off all face planes, the
 /// crossings sum to 1 where it leaves the solid, to -1 where it enters, else to 0.
@@ -69,4 +74,23 @@ pub fn a_way_crosses_a_triangle()
     ensures out { crossing point_below point_above worked_triangle ≡ pos 1 }
     ensures back { crossing point_above point_below worked_triangle ≡ negsuc 0 }
     ensures edges { TouchesNoEdge point_below point_above worked_triangle }
+{}
+
+/// What tiles rest on: where two trees hold alike inside a cell, as a box is one, their texts have the same faces there. Of a point
+/// strictly inside the cell and the world box, which is on exactly one of the planes of both trees: seen from each side of that
+/// plane, either exactly one face of each text covers it, or no face of either does.
+pub fn trees_alike_inside_have_faces_alike()
+    ensures { (unit : LengthUnit) (cell : List Coefficients) (f g : Tree) (bytes others : List ℕ) →
+        IsProper f → IsProper g → HoldAlikeInside cell f g →
+        (text : IsBoundary unit bytes f) (other : IsBoundary unit others g) (n : Coefficients)
+        (p : Coordinates) → IsInCell cell (in_steps unit p) →
+        IsOnOneFacePlane (tree_join Union f g) n (in_steps unit p) →
+        CoverAlike unit text.vertices other.vertices text.faces other.faces n p }
+{}
+
+/// A worked limit: the corner (0, 0, 0) of the cube from 0 to 1 along each axis is a limit of points inside the cube, and the
+/// point (2, 0, 0) isn't.
+pub fn a_corner_is_a_limit()
+    ensures corner { IsLimitOfInside worked_cube origin }
+    ensures beside { IsLimitOfInside worked_cube point_beside → ⊥ }
 {}

@@ -1,10 +1,10 @@
 -- Printed replies of one script have one reading.
 use Rattle.std.proofs.Common.{◌≡◌, ◌≢◌, ⊎_elim, ℕ, suc, List, [], ◌∷◌, ◌++◌, refl, sym, ap, ◌∙◌, arith, get_or, codes, append_assoc}
 use Rattle.std.proofs.lemmas.List.{append_cancel_left}
-use Rattle.text_place.specs.Decimals.{numeral}
+use Rattle.plain_text.specs.Decimals.{numeral}
 use Rattle.script_reader.specs.declared.script.Command.{Command}
 use Rattle.script_reader.specs.declared.script.ClientScript.{ClientScript}
-use Rattle.text_place.specs.Separators.{newline}
+use Rattle.plain_text.specs.Separators.{newline}
 use Rattle.edit_session.specs.Sessions.{State, start_state, state_after_command}
 use Rattle.reply_text.specs.declared.reply.Reply.{Reply}
 use Rattle.reply_text.specs.declared.reply.Reply.TheVariants as reply
@@ -15,7 +15,7 @@ use Rattle.reply_text.proofs.OneAnswer.{one_answer, answer_has_memory, heads_and
 abbrev second : List ℕ → ℕ
 second bytes = get_or bytes 1 0
 
--- the line of want of memory is no other reply's: it alone begins with `n` behind the space
+-- the line for memory that ran out is no other reply's: it alone begins with `n` behind the space
 other_line : (r : Reply) (x y : List ℕ) → r ≢ reply.NoMem → reply_body reply.NoMem ++ x ≡ reply_body r ++ y → ⊥
 other_line (reply.Lines n) x y h e = let letter : 110 ≡ 111 = ap second e in absurd (omega (arith, letter))
 other_line (reply.Refused why) x y h e = let letter : 110 ≡ 114 = ap second e in absurd (omega (arith, letter))

@@ -1,13 +1,13 @@
 -- Replies and outputs that are written out.
 use Rattle.std.proofs.Common.{◌≡◌, ℕ, List, [], ◌∷◌, length, refl, codes, inl, inr}
 use Rattle.text_place.specs.declared.fault.FaultKind.TheVariants.{UnknownName}
-use Rattle.text_place.specs.Decimals.{numeral}
+use Rattle.plain_text.specs.Decimals.{numeral}
 use Rattle.script_reader.specs.declared.script.Command.{Command}
 use Rattle.script_reader.specs.declared.script.Command.TheVariants.{Put, Set, Cut, Show, Export, Bad}
 use Rattle.script_reader.specs.declared.script.ClientScript.{ClientScript}
 use Rattle.edit_session.specs.declared.fault.SessionFault.TheVariants.{NoSuchLine, TooManyExports, BadCommand}
 use Rattle.edit_session.specs.Sessions.{State, start_state}
-use Rattle.reply_text.specs.declared.reply.PassedLimit.TheVariants as limit
+use Rattle.export_limits.specs.declared.passed.PassedLimit.TheVariants as limit
 use Rattle.reply_text.specs.declared.reply.Reply.{Reply}
 use Rattle.reply_text.specs.declared.reply.Reply.TheVariants as reply
 use Rattle.reply_text.specs.Texts.{replies_text, output}
@@ -56,7 +56,7 @@ empty_output_is : output (exporting ∷ []) ((reply.Solid (codes "4OFF\n0 0 0\n"
 unfolding numeral
 empty_output_is = refl
 
--- ---- want of memory
+-- ---- memory ran out
 -- a command that is answered so counts as not given
 not_given_fits : Fits GivesBack start_state (Put 1 (codes "x") ∷ Put 2 (codes "y") ∷ Put 1 (codes "z") ∷ []) (reply.NoMem ∷ reply.Refused NoSuchLine ∷ reply.Lines 1 ∷ [])
 not_given_fits = inl (refl, refl, inr (refl, inr (refl, tt)))

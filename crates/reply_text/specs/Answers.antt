@@ -50,7 +50,7 @@ abbrev pub state_after : State → Command → Reply → State
 state_after s c reply.NoMem = s
 state_after s c _ = state_after_command s c
 
--- a source has at most one reply to its export, and it isn't that of want of memory
+-- a source has at most one reply to its export, and it isn't that of memory that ran out
 pub record IsExport (Exports : List ℕ → Reply → Type 0) : Type 0 where
   pub one : (source : List ℕ) (r q : Reply) → Exports source r → Exports source q → r ≡ q
   pub has_memory : (source : List ℕ) (r : Reply) → Exports source r → r ≢ reply.NoMem

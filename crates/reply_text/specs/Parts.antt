@@ -1,12 +1,12 @@
 -- The parts of a reply's text.
 use Rattle.std.specs.Prelude.{◌≡◌, ℕ, List, [], ◌++◌, flat_map, length, codes}
 use Rattle.text_place.specs.declared.fault.Fault.{Fault}
-use Rattle.text_place.specs.Decimals.{numeral}
+use Rattle.plain_text.specs.Decimals.{numeral}
 use Rattle.text_place.specs.Words.{word_of}
 use Rattle.reply_text.specs.declared.reply.Reply.{Reply}
 use Rattle.reply_text.specs.declared.reply.Reply.TheVariants as reply
 use Rattle.reply_text.specs.Texts.{refusal_word, limit_words, line_count}
-use Rattle.text_place.specs.Separators.{space, newline}
+use Rattle.plain_text.specs.Separators.{space, newline}
 
 -- how a fault is told: its line, its column and its word
 abbrev pub source_fault_words : Fault → List ℕ

@@ -4,17 +4,10 @@ use Rattle.script_reader.specs.declared.script.Command.{Command}
 use Rattle.script_reader.specs.declared.script.Command.TheVariants.{Export}
 use Rattle.script_reader.specs.declared.script.ClientScript.{ClientScript}
 use Rattle.edit_session.specs.Sessions.{State, start_state, source_of, refusal}
-use Rattle.reply_text.specs.declared.reply.PassedLimit.{PassedLimit}
-use Rattle.reply_text.specs.declared.reply.PassedLimit.TheVariants as limit
+use Rattle.export_limits.specs.Limits.{IsSizeLimit}
 use Rattle.reply_text.specs.declared.reply.Reply.{Reply}
 use Rattle.reply_text.specs.declared.reply.Reply.TheVariants as reply
 use Rattle.reply_text.specs.Answers.{state_after}
-
--- a limit of size: of one solid, or of all together
-abbrev pub IsSizeLimit : PassedLimit → Type 0
-IsSizeLimit (limit.Solid number) = Unit {0}
-IsSizeLimit (limit.Sum number) = Unit {0}
-IsSizeLimit _ = ⊥
 
 -- an export that is answered so is solved: memory did not run out, and no limit of size was passed
 abbrev pub IsSolvedReply : Reply → Type 0

@@ -1,15 +1,15 @@
 -- The text of replies, and the output of a script.
 use Rattle.std.specs.Prelude.{ℕ, suc, ◌==◌, List, [], ◌∷◌, ◌++◌, flat_map, length, count_by, codes}
-use Rattle.text_place.specs.Decimals.{numeral}
+use Rattle.plain_text.specs.Decimals.{numeral}
 use Rattle.text_place.specs.Words.{word_of}
 use Rattle.script_reader.specs.declared.script.ClientScript.{ClientScript}
 use Rattle.edit_session.specs.declared.fault.SessionFault.{SessionFault}
 use Rattle.edit_session.specs.declared.fault.SessionFault.TheVariants.{NoSuchLine, TooManyLines, TooManyShows, TooManyExports, BadCommand, NoMemory}
-use Rattle.reply_text.specs.declared.reply.PassedLimit.{PassedLimit}
-use Rattle.reply_text.specs.declared.reply.PassedLimit.TheVariants as limit
+use Rattle.export_limits.specs.declared.passed.PassedLimit.{PassedLimit}
+use Rattle.export_limits.specs.declared.passed.PassedLimit.TheVariants as limit
 use Rattle.reply_text.specs.declared.reply.Reply.{Reply}
 use Rattle.reply_text.specs.declared.reply.Reply.TheVariants as reply
-use Rattle.text_place.specs.Separators.{space, newline}
+use Rattle.plain_text.specs.Separators.{space, newline}
 
 -- the word of a refusal
 abbrev pub refusal_word : SessionFault → List ℕ

@@ -12,7 +12,7 @@ ghost use Rattle.reply_text.specs.Answers.{Fits, AllFit, SameWants, IsExport};
 use crate::exporting::Exporting;
 
 /// For one script, replies that fit its clients' commands and print the same bytes are equal, whatever
-/// follows, and so is what follows: no first line of a defined reply is that of want of memory.
+/// follows, and so is what follows: no first line of a defined reply is that of memory that ran out.
 pub fn one_output<E: Exporting>()
     requires { (unit : LengthUnit) → IsExport (E.exports unit) }
     ensures { (unit : LengthUnit) (clients : List ClientScript) (rs qs : List (List Reply))

@@ -3,20 +3,9 @@
 ghost use Rattle.std.specs.Prelude.{◌≡◌};
 
 use edit_session::SessionFault;
+use export_limits::PassedLimit;
 use std::marker::Model;
 use text_place::{Bytes, Fault, Lines};
-
-/// The limit that an export passes.
-#[derive(Clone, Copy)]
-pub enum PassedLimit {
-    /// The solid of this node is too large.
-    Solid(u32),
-    /// The solids up to this node are too large together.
-    Sum(u32),
-    Facets,
-    Corners,
-    Vertices,
-}
 
 /// What one command is answered.
 #[derive(Drop)]

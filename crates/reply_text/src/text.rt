@@ -1,13 +1,14 @@
 //! The text of replies.
 
 ghost use Rattle.std.specs.Prelude.{◌≡◌, ◌++◌, ℕ, List, flat_map, IfOk, OnOk, OnErr};
-ghost use Rattle.text_place.specs.Decimals.{numeral};
-ghost use Rattle.text_place.specs.Separators.{newline};
+ghost use Rattle.plain_text.specs.Decimals.{numeral};
+ghost use Rattle.plain_text.specs.Separators.{newline};
 ghost use Rattle.reply_text.specs.Texts.{refusal_word, limit_words, line_count, reply_body};
 ghost use Rattle.reply_text.specs.Parts.{source_fault_words, first_words, further_lines, Grows};
 
-use crate::reply::{PassedLimit, Reply};
+use crate::reply::Reply;
 use edit_session::SessionFault;
+use export_limits::PassedLimit;
 use std::alloc::Global;
 use text_place::{Bytes, Fault, NoMemory, push_decimal, word};
 

@@ -6,11 +6,11 @@ use Rattle.plane_predicate.specs.Space.{Coefficients, point_at, value}
 use Rattle.int_transform.specs.declared.affine.Affine.{Affine}
 use Rattle.primitives.specs.Shapes.{Mesh, IsPlaneOfFace}
 use Rattle.primitives.specs.Placing.{moved_mesh, ArePlanesOf}
-use Rattle.primitives.proofs.Distinct.{all_of_distinct}
-use Rattle.primitives.proofs.Lists.{zip_second}
+use Rattle.primitives.proofs.lemmas.Distinct.{all_of_distinct}
+use Rattle.primitives.proofs.lemmas.Lists.{zip_second}
 use Rattle.primitives.specs.Prisms.{AreBehindOrOn}
 use Rattle.round_four.specs.Cylinders.{cylinder_between}
-use Rattle.round_four.proofs.Cylinders.{by_apexes}
+use Rattle.round_four.proofs.lemmas.Cylinders.{by_apexes}
 
 abbrev AreBehind : Mesh → Coefficients → Type 0
 AreBehind mesh m = All (λ (p : List ℤ). value m (point_at p) ≤ℤ pos 0) mesh.points

@@ -4,8 +4,8 @@ use Rattle.std.proofs.lemmas.Int.{ints}
 use Rattle.std.proofs.lemmas.List.Elements.{All-append, All-from_recursion}
 use Rattle.std.proofs.Math.IntN.{*ℤ-zero}
 use Rattle.plane_predicate.specs.Space.{Coordinates, point_at}
-use Rattle.plane_predicate.proofs.IntegerRing.{sums, one_mul}
-use Rattle.primitives.proofs.Moves.{whole}
+use Rattle.plane_predicate.proofs.lemmas.IntegerRing.{sums, one_mul}
+use Rattle.primitives.proofs.lemmas.Moves.{whole}
 use Rattle.primitives.specs.Polygons.{x_of, y_of}
 use Rattle.primitives.specs.Prisms.{at_height}
 use Rattle.round_four.specs.Circles.{circle_points}

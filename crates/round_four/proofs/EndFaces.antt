@@ -1,13 +1,13 @@
 -- The low and the high end of a cylinder.
 use Rattle.std.proofs.Common.{◌≡◌, inl, inr, ℕ, List, [], ◌∷◌, ap, sym, ◌∙◌, refl, arith, ℤ, pos, negsuc, neg_ℤ, ◌+ℤ◌, ◌-ℤ◌, ◌<ℤ◌, ◌≤ℤ◌}
 use Rattle.plane_predicate.specs.Space.{Coefficients, Coordinates, value, minor, AreCollinear}
-use Rattle.plane_predicate.proofs.IntegerRing.{sums}
-use Rattle.plane_predicate.proofs.Polynomials.{var, num, times, minus, ring}
-use Rattle.plane_predicate.proofs.Signs.{zero_cancel}
-use Rattle.plane_predicate.proofs.Vectors.{valueP, minorP}
+use Rattle.plane_predicate.proofs.lemmas.IntegerRing.{sums}
+use Rattle.plane_predicate.proofs.lemmas.Polynomials.{var, num, times, minus, ring}
+use Rattle.plane_predicate.proofs.lemmas.Signs.{zero_cancel}
+use Rattle.plane_predicate.proofs.lemmas.Vectors.{valueP, minorP}
 use Rattle.primitives.specs.Shapes.{Mesh, mesh_point}
-use Rattle.primitives.proofs.Moves.{whole, wholeP}
-use Rattle.primitives.proofs.Bodies.{IsOutside}
+use Rattle.primitives.proofs.lemmas.Moves.{whole, wholeP}
+use Rattle.primitives.proofs.lemmas.Bodies.{IsOutside}
 use Rattle.round_four.proofs.Corners.{IsCorner}
 use Rattle.round_four.proofs.Sides.{AreCorners, IsFaceOf}
 

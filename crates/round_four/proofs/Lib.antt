@@ -1,11 +1,6 @@
 pub mod Near
-pub mod Radii
+pub mod lemmas
 pub mod Corners
-pub mod Circles
 pub mod Sides
 pub mod EndFaces
-pub mod TwoCircles
-pub mod ToApex
-pub mod FromApex
-pub mod Cylinders
 pub mod Behind

@@ -4,13 +4,13 @@ use Rattle.std.proofs.Common.{◌≡◌, inl, inr, ℕ, zero, suc, ◌<◌, List
 use Rattle.std.proofs.lemmas.List.Elements.{All-from_recursion}
 use Rattle.std.proofs.Math.IntN.{*ℤ-zero}
 use Rattle.plane_predicate.specs.Space.{Coefficients, Coordinates, point_at, value, AreCollinear}
-use Rattle.plane_predicate.proofs.IntegerRing.{sums, one_mul}
-use Rattle.plane_predicate.proofs.Polynomials.{Poly, var, num, plus, times, minus, ring}
-use Rattle.plane_predicate.proofs.Signs.{pos_neg, least_most, zero_cancel}
-use Rattle.plane_predicate.proofs.Vectors.{Form, Place, valueP, minorP}
+use Rattle.plane_predicate.proofs.lemmas.IntegerRing.{sums, one_mul}
+use Rattle.plane_predicate.proofs.lemmas.Polynomials.{Poly, var, num, plus, times, minus, ring}
+use Rattle.plane_predicate.proofs.lemmas.Signs.{pos_neg, least_most, zero_cancel}
+use Rattle.plane_predicate.proofs.lemmas.Vectors.{Form, Place, valueP, minorP}
 use Rattle.primitives.specs.Shapes.{Mesh, mesh_point, value_at_point, HasTriangle}
-use Rattle.primitives.proofs.Moves.{whole}
-use Rattle.primitives.proofs.Bodies.{HasFar, IsOutside}
+use Rattle.primitives.proofs.lemmas.Moves.{whole}
+use Rattle.primitives.proofs.lemmas.Bodies.{HasFar, IsOutside}
 use Rattle.round_four.proofs.Corners.{reach, IsCorner, IsSign}
 
 abbrev pub side_plane : ℤ → ℤ → ℤ → ℤ → ℤ → ℤ → Coefficients

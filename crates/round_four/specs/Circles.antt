@@ -26,7 +26,7 @@ IsCircleFault unit radius BadSize = radius <ℤ pos 1
 IsCircleFault unit radius OutOfRange = (pos 1 ≤ℤ radius) × (unsigned_abs (length_in_grid_steps unit radius) ≤ 65535 → ⊥)
 IsCircleFault unit radius kind = ⊥
 
--- the stops of a circle: its first fault, or want of memory
+-- the stops of a circle: its first fault, or that memory ran out
 abbrev pub IsCircleStop : LengthUnit → ℤ → ShapeStop → Type 0
 IsCircleStop unit radius (Kind kind) = IsCircleFault unit radius kind
 IsCircleStop unit radius NoMemory = ⊤

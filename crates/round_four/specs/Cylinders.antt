@@ -97,7 +97,7 @@ IsCylinderFault unit center height low high NotOnGrid = HasBody height low high 
 IsCylinderFault unit center height low high OutOfRange = HasBody height low high × IsOnGrid unit center height × (IsCylinderInRange unit center height low high → ⊥)
 IsCylinderFault unit center height low high kind = ⊥
 
--- the stops of a cylinder: its first fault, or want of memory
+-- the stops of a cylinder: its first fault, or that memory ran out
 abbrev pub IsCylinderStop : LengthUnit → Bool → ℤ → ℤ → ℤ → ShapeStop → Type 0
 IsCylinderStop unit center height low high (Kind kind) = IsCylinderFault unit center height low high kind
 IsCylinderStop unit center height low high NoMemory = ⊤

@@ -1,4 +1,4 @@
-//! Circles and cylinders with four fragments, from their arguments or with their first fault.
+//! Circles and cylinders with four fragments, made from their arguments or refused with their first fault.
 #![tactic(auto)]
 
 mod circle;

@@ -3,7 +3,7 @@ use Rattle.std.proofs.Common.{◌≡◌, ◌∙◌, ℕ, Bool, true, false, sym,
 use Rattle.std.specs.Borrow.{Bor}
 use Rattle.std.specs.Str.Parse.{digits_value}
 use Rattle.std.proofs.lemmas.Slice.Eq.{bytes_eq-Decides}
-use Rattle.text_place.specs.Decimals.{IsShortNumeral}
+use Rattle.plain_text.specs.Decimals.{IsShortNumeral}
 use Rattle.clap.specs.Words.{Row, Text, found_of, first_of, rows_of, first_value, subcommand_rows_of, subcommand_rows}
 use Rattle.clap.specs.Matches.{one_text, subcommand_name_of}
 use Rattle.clap.specs.declared.parser.matches.ArgMatches.TheViews.{out-ArgMatches, out-SubCommand}

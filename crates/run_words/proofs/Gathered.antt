@@ -8,7 +8,7 @@ use Rattle.run_words.proofs.Rows.{FlagRow, RowsSay, first_more, first_new, flag_
 use Rattle.run_words.proofs.Built.{HasNoSeparator, run_leaf, Leads, both_fine, ends, faults, next_word, then}
 use Rattle.run_words.proofs.Steps.{Piece, Valued, HalfGiven, TallyGiven, Stands, apart_of, doomed, idle_at, joined, joined_leads, key_id, name_leads, name_of, new_stands, row_at, value_leads, value_met, value_missing, value_stands, waits}
 use Rattle.run_words.proofs.Options.{IsOption, IsSpelled, final, is_free, option_at, say_more}
-use Rattle.text_place.specs.Decimals.{IsNumeralOf}
+use Rattle.plain_text.specs.Decimals.{IsNumeralOf}
 
 -- each value is a numeral
 abbrev pub AreNumerals : List Row → Type 0

@@ -15,7 +15,7 @@ use Rattle.run_words.specs.Words.{OptionKey, Workers, Memo, Share, RunOption, Nu
 use Rattle.run_words.proofs.Rows.{KeyRow, FlagRow, RowsSay, full, first_new, flag_kept, flag_new, key_kept, no_flag, no_text, row}
 use Rattle.run_words.proofs.Built.{run_leaf, Leads, at_hand, ends, faults, separator, test, then}
 use Rattle.run_words.proofs.Steps.{Piece, Valued, HalfGiven, TallyGiven, Stands, idle_at, idle_turn, joined, joined_leads, key_id, name_leads, name_of, new_stands, row_at, run_defaults, used_once, value_leads, value_stands, waits, plain_fine, plain_met}
-use Rattle.text_place.specs.Decimals.{IsNumeralOf}
+use Rattle.plain_text.specs.Decimals.{IsNumeralOf}
 
 -- ---- how a long option is spelled
 abbrev spelled : Text → Option Text → Text

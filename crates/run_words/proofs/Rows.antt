@@ -8,7 +8,7 @@ use Rattle.clap.specs.declared.builder.value_parser.Reading.TheVariants.{AsWritt
 use Rattle.clap.specs.declared.parser.matches.ValueSource.{ValueSource}
 use Rattle.clap.specs.declared.parser.matches.ValueSource.TheVariants.{CommandLine, DefaultValue}
 use Rattle.run_words.specs.declared.given.GivenOptions.{GivenOptions}
-use Rattle.text_place.specs.Decimals.{IsNumeralOf}
+use Rattle.plain_text.specs.Decimals.{IsNumeralOf}
 use Rattle.run_words.specs.Reading.{WritesNumberIfThere, SaysFlag, WriteOptions, flag_text}
 
 -- a row with these values, from the words or from a default

@@ -26,7 +26,7 @@ use Rattle.run_words.proofs.Built.{HasNoSeparator, run_leaf, demo_leaf, top, nam
 use Rattle.run_words.proofs.Steps.{apart_of, idle_at, new_stands}
 use Rattle.run_words.proofs.Options.{final, numeral_plain, taken}
 use Rattle.run_words.proofs.Gathered.{AreNumerals, gathered}
-use Rattle.text_place.specs.Decimals.{IsNumeralOf}
+use Rattle.plain_text.specs.Decimals.{IsNumeralOf}
 
 -- ---- `run`
 abbrev run_rows : List Text → List Row
@@ -323,7 +323,7 @@ fine_found a words e fine = rw e at fine
 pub rows_found : (a : App) (words : List Text) (m : ArgMatches) → a ≡ program → HasMatchesOf a words m → subcommand_rows_of m ≡ subcommand_of program words
 rows_found a words m e h = (h (ap is_simple e ∙ program_simple)).1 ∙ ap (λ (x : App). subcommand_of x words) e
 
--- an error of another kind than want of memory comes only where something is wrong with the words
+-- an error of another kind than running out of memory comes only where something is wrong with the words
 pub refused : (a : App) (words : List Text) (e : Error) → a ≡ program → HasKind (fault_of a words) e → (kind_of e ≢ OutOfMemory) → (settings : Settings) → Chooses words settings → ⊥
 refused a words e is kinds other settings h = elim kinds [
   | inl memory ↦ other memory

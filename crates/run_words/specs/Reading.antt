@@ -6,7 +6,7 @@ use Rattle.run_words.specs.declared.given.GivenOptions.{GivenOptions}
 use Rattle.run_words.specs.declared.settings.Settings.{Settings}
 use Rattle.run_words.specs.declared.settings.Settings.TheVariants.{Demo}
 use Rattle.run_words.specs.Words.{chosen_settings}
-use Rattle.text_place.specs.Decimals.{IsNumeralOf}
+use Rattle.plain_text.specs.Decimals.{IsNumeralOf}
 
 -- no text and no number, or a text that writes the number
 abbrev pub WritesNumberIfThere : Option Text → Option ℕ → Type 0

@@ -1,6 +1,6 @@
 -- The grammar of the words: `run`, and options in any order, each at most once, or `demo` and a number.
 use Rattle.std.specs.Prelude.{◌≡◌, ℕ, ◌*◌, ◌≤◌, true, false, List, [], ◌∷◌, ◌++◌, codes, ◌⊎◌, Option, Some, None}
-use Rattle.text_place.specs.Decimals.{IsNumeralOf}
+use Rattle.plain_text.specs.Decimals.{IsNumeralOf}
 use Rattle.run_words.specs.declared.given.GivenOptions.{GivenOptions}
 use Rattle.run_words.specs.declared.settings.Settings.{Settings}
 use Rattle.run_words.specs.declared.settings.Settings.TheVariants.{Run, Demo}

@@ -6,7 +6,7 @@ ghost use Rattle.run_words.specs.declared.given.GivenOptions.{GivenOptions};
 ghost use Rattle.run_words.specs.Reading.{WritesNumberIfThere, WriteOptions, HaveFlags};
 
 use clap::ArgMatches;
-use text_place::read_decimal;
+use plain_text::read_decimal;
 
 /// The options that were given.
 #[derive(Clone, Copy)]

@@ -1,6 +1,6 @@
 -- Programs that are written out, with the places that they hold.
 use Rattle.std.proofs.Common.{◌≡◌, ℕ, List, [], ◌∷◌, refl, arith, codes}
-use Rattle.text_place.specs.declared.fault.Place.{Place}
+use Rattle.plain_text.specs.declared.place.Place.{Place}
 use Rattle.scad_ast.specs.declared.operator.BinaryOp.TheVariants.{Divide}
 use Rattle.scad_ast.specs.declared.operator.UnaryOp.TheVariants.{Negate}
 use Rattle.scad_ast.specs.declared.operator.Modifier.TheVariants.{Root}

@@ -1,6 +1,6 @@
 -- The plain tree that an expression in memory stands for.
 use Rattle.std.specs.Prelude.{List, ◌∷◌}
-use Rattle.text_place.specs.declared.fault.Place.{Place}
+use Rattle.plain_text.specs.declared.place.Place.{Place}
 use Rattle.scad_ast.specs.declared.expression.Expr.{Expr}
 use Rattle.scad_ast.specs.declared.expression.Exprs.{Exprs}
 use Rattle.scad_ast.specs.declared.expression.Postfix.{Postfix}

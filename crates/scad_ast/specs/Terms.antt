@@ -1,6 +1,6 @@
 -- The syntax as plain trees, without memory (OpenSCAD User Manual, in the profile of this server).
 use Rattle.std.specs.Prelude.{ℕ, Bool, List, [], ◌∷◌}
-use Rattle.text_place.specs.declared.fault.Place.{Place}
+use Rattle.plain_text.specs.declared.place.Place.{Place}
 use Rattle.scad_ast.specs.declared.operator.BinaryOp.{BinaryOp}
 use Rattle.scad_ast.specs.declared.operator.UnaryOp.{UnaryOp}
 use Rattle.scad_ast.specs.declared.operator.Modifier.{Modifier}

@@ -1,10 +1,12 @@
+//! Expressions, as the parser gives them.
+
 ghost use Rattle.std.specs.Prelude.{◌≡◌};
 ghost use Rattle.scad_ast.specs.Terms.{place_of_term};
 ghost use Rattle.scad_ast.specs.ExprView.{term_of};
 
 use crate::operator::{BinaryOp, UnaryOp};
+use plain_text::{CompactBytes, Numeral, Place};
 use std::mem::size_of;
-use text_place::{CompactBytes, Numeral, Place};
 
 /// An expression. The first place of each form is that of its first token. What has no room beside the place lies in one
 /// box, so that an expression takes 32 bytes.

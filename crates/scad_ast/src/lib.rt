@@ -1,6 +1,7 @@
 //! The syntax tree of the modelling language, with the place of each form, name, operator and sign.
 //!
-//! There is one variant for each form. Each has the place of its first token, and each name, operator, `?`, `.` and `[` of an index has its own.
+//! There is one variant for each form. Each has the place of its first token. Each name, each operator, and each `?`, `.` and
+//! `[` of an index has a place of its own.
 #![tactic(auto)]
 
 mod expression;

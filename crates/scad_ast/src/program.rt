@@ -1,3 +1,5 @@
+//! A whole program: its statements, few enough that blocks and definitions are numbered by `u32`.
+
 ghost use Rattle.std.specs.Prelude.{◌<◌, ◌^◌};
 ghost use Rattle.scad_ast.specs.Counts.{count_begun_by_program};
 ghost use Rattle.scad_ast.specs.StatementView.{statements_of};

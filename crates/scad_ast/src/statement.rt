@@ -1,10 +1,12 @@
+//! Statements, instances, definitions, parameters and arguments, as the parser gives them.
+
 ghost use Rattle.std.specs.Prelude.{◌≡◌};
 ghost use Rattle.scad_ast.specs.Terms.{place_of_statement, place_of_instance, place_of_core, place_of_body};
 ghost use Rattle.scad_ast.specs.StatementView.{statement_of, instance_of, core_of, body_of};
 
 use crate::expression::{Args, Expr};
 use crate::operator::Modifier;
-use text_place::{CompactBytes, Place};
+use plain_text::{CompactBytes, Place};
 
 /// A parameter: its name with its place, and its default where it has one.
 #[derive(Drop)]

@@ -29,7 +29,7 @@ is_left_out_function = is_among
     ∷ codes "rands" ∷ codes "norm" ∷ codes "cross" ∷ codes "search" ∷ codes "lookup" ∷ codes "is_string"
     ∷ codes "is_function" ∷ codes "version" ∷ codes "version_num" ∷ codes "parent_module" ∷ [])
 
--- whether a function takes so many arguments
+-- whether a function takes the given number of arguments
 abbrev pub takes_count : Builtin → ℕ → Bool
 takes_count Min n = nat_lt 0 n
 takes_count Max n = nat_lt 0 n

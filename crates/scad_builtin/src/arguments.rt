@@ -1,3 +1,5 @@
+//! Takes one or two values out of a function's arguments.
+
 ghost use Rattle.std.specs.Prelude.{◌≡◌, [], ◌∷◌, length, MatchOption};
 ghost use Rattle.scad_value.specs.View.{val_of, vals_in};
 

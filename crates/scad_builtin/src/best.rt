@@ -1,3 +1,5 @@
+//! `min` and `max`.
+
 ghost use Rattle.std.specs.Prelude.{◌≡◌, int_lt};
 ghost use Rattle.scad_value.specs.Values.{vals_from, and_val, no_vals};
 ghost use Rattle.scad_value.specs.Operators.{number_answer};

@@ -1,3 +1,5 @@
+//! Whether each of some values keeps the limits of values.
+
 ghost use Rattle.std.specs.Prelude.{◌≡◌};
 ghost use Rattle.scad_value.specs.View.{vals_of, vals_in};
 ghost use Rattle.scad_builtin.specs.Builtins.{are_bounded};

@@ -1,3 +1,5 @@
+//! The built-in functions: how many arguments each takes, and its value of them.
+
 ghost use Rattle.std.specs.Prelude.{◌≡◌, IsTrue};
 ghost use Rattle.scad_value.specs.Values.{vals_from};
 ghost use Rattle.scad_value.specs.View.{val_of, vals_of, MeetsAnswer, GivesBounded};
@@ -32,7 +34,7 @@ pub enum Builtin {
 }
 
 impl Builtin {
-    /// Whether the function takes so many arguments.
+    /// Whether the function takes the given number of arguments.
     pub fn takes(self, count: usize) -> bool
         ensures { result ≡ takes_count self count }
     {

@@ -1,4 +1,4 @@
-//! The built-in functions of the modelling language, of values to a value.
+//! The built-in functions of the modelling language, each from values to a value.
 #![tactic(auto)]
 
 mod arguments;

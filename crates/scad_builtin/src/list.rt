@@ -1,3 +1,5 @@
+//! `len` and `concat`.
+
 ghost use Rattle.std.specs.Prelude.{◌≡◌, ◌++◌, Ok, IfOk, IfErr, OnOk, false};
 ghost use Rattle.scad_value.specs.Values.{vals_from, count_of, ListVal};
 ghost use Rattle.scad_value.specs.Operators.{value_or_long_list};

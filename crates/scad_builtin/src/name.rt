@@ -1,3 +1,5 @@
+//! The names of built-in functions, and of those of OpenSCAD that the profile leaves out.
+
 ghost use Rattle.std.specs.Prelude.{◌≡◌, map};
 ghost use Rattle.std.specs.Str.{bytes_eq};
 ghost use Rattle.scad_builtin.specs.Builtins.{builtin_of, named_in, is_among, is_left_out_function};

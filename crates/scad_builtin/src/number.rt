@@ -1,3 +1,5 @@
+//! Built-in functions of one number, and powers.
+
 ghost use Rattle.std.specs.Prelude.{◌≡◌, ◌≤◌, ◌<ℤ◌, pos, negsuc, unsigned_abs};
 ghost use Rattle.scad_value.specs.Values.{vals_from};
 ghost use Rattle.scad_value.specs.Operators.{number_or_too_large};
@@ -113,7 +115,7 @@ fn alternating(exponent: u64) -> i64
     if exponent % 2 == 0 { 1 } else { -1 }
 }
 
-// The product of so many equal factors, each at least 2 in size: so it is too large after at most
+// The product of the given number of equal factors, each at least 2 in size: so it is too large after at most
 // 54 of them.
 fn repeated(factor: i64, count: u64) -> Result<i64, FaultKind>
     requires { 2 ≤ unsigned_abs factor }

@@ -6,7 +6,7 @@ pub mod Held
 pub mod Placed
 pub mod Order
 pub mod Begun
-pub mod Numbered
+pub mod lemmas
 pub mod Looking
 pub mod Expected
 pub mod Named

@@ -1,7 +1,7 @@
 -- Which argument each parameter of a call gets.
 use Rattle.std.specs.Prelude.{◌≡◌, ℕ, zero, ◌+◌, List, [], ◌∷◌, length, map, replicate, Option, Some, None, is_some, Result, Ok, Err, nat_lt, if◌then◌else◌, slice_index_or, slice_set}
 use Rattle.std.specs.Str.{bytes_eq}
-use Rattle.text_place.specs.declared.fault.Place.{Place}
+use Rattle.plain_text.specs.declared.place.Place.{Place}
 use Rattle.text_place.specs.declared.fault.Stop.{Stop}
 use Rattle.text_place.specs.declared.fault.Stop.TheVariants.{Fault, NoMemory}
 use Rattle.text_place.specs.declared.fault.FaultKind.TheVariants.{BadArgument}
@@ -23,8 +23,8 @@ first_named [] name = None
 first_named (known ∷ others) name =
     if bytes_eq known name then Some zero else one_further (first_named others name)
 
--- The number of the parameter that an argument takes after so many positional ones, among parameters of these names. A special
--- argument takes none.
+-- The number of the parameter that an argument takes after the given number of positional ones, among parameters of these
+-- names. A special argument takes none.
 abbrev pub parameter_taken_by : List (List ℕ) → ℕ → ArgTerm → Option ℕ
 parameter_taken_by names positional (PositionalTerm value) =
     if nat_lt positional (length names) then Some positional
@@ -50,7 +50,7 @@ pub record ArgumentsOf (A : Type 0) : Type 0 where
   pub bound : List (Option A)
   pub dynamic : Pairs A
 
--- before the first argument of so many parameters
+-- before the first argument of the given number of parameters
 abbrev pub no_arguments_of : {A : Type 0} → ℕ → ArgumentsOf A
 no_arguments_of count = record { bound = replicate count None; dynamic = [] }
 
@@ -65,8 +65,8 @@ unless_bound bound None = None
 unless_bound bound (Some number) =
     if is_some (slice_index_or bound number None) then None else Some (to_parameter number)
 
--- where an argument goes after so many positional ones, among parameters of these names: a surplus one, one of an unknown
--- name and one whose destination has something already go nowhere
+-- where an argument goes after the given number of positional ones, among parameters of these names: a surplus one, one of an
+-- unknown name and one whose destination has something already go nowhere
 abbrev pub destination_of : {A : Type 0} → List (List ℕ) → ℕ → ArgumentsOf A → ArgTerm
     → Option DestinationTerm
 destination_of names positional given (SpecialArgTerm at name value) =
@@ -112,7 +112,7 @@ MeetsMatching (Ok bound) out = out ≡ Ok bound
 MeetsMatching (Err (Fault fault)) out = (fault.kind ≡ BadArgument) × (out ≡ Err fault.place)
 MeetsMatching (Err NoMemory) out = Unit {0}
 
--- a number after so many others
+-- a number after the given number of others
 abbrev pub number_after : ℕ → Option ℕ → Option ℕ
 number_after count (Some number) = Some (count + number)
 number_after count None = None

@@ -4,7 +4,7 @@ use Rattle.std.specs.Borrow.{Bor}
 use Rattle.text_place.specs.declared.fault.Stop.{Stop}
 use Rattle.text_place.specs.declared.fault.Stop.TheVariants.{Fault, NoMemory}
 use Rattle.text_place.specs.declared.fault.FaultKind.{FaultKind}
-use Rattle.text_place.specs.declared.fault.Place.{Place}
+use Rattle.plain_text.specs.declared.place.Place.{Place}
 use Rattle.scad_ast.specs.StatementView.{param_of}
 use Rattle.scad_definitions.specs.declared.lookup.ParameterNames.{ParameterNames}
 use Rattle.scad_definitions.specs.declared.parameters.Names.{Names}
@@ -57,7 +57,7 @@ abbrev pub destination_term_of : Option Destination → Option DestinationTerm
 destination_term_of None = None
 destination_term_of (Some target) = Some (destination_term target)
 
--- a parameter is one of so many
+-- a parameter's number is below the given one
 abbrev pub IsDestinationThere : ℕ → Destination → Type 0
 IsDestinationThere count (Parameter number) = number < count
 IsDestinationThere count (Special name) = Unit {0}

@@ -2,7 +2,7 @@
 use Rattle.std.specs.Prelude.{◌≡◌, ◌<◌, ℕ, zero, suc, ◌+◌, List, [], ◌∷◌, ◌++◌, length, slice_index_or, Bool, true, false, ◌&&◌, if◌then◌else◌, Option, Some, None}
 use Rattle.std.specs.Bool.{beq}
 use Rattle.std.specs.Str.{bytes_eq}
-use Rattle.text_place.specs.declared.fault.Place.{Place}
+use Rattle.plain_text.specs.declared.place.Place.{Place}
 use Rattle.scad_ast.specs.Terms.{Term, ParamTerm, StatementTerm, EmptyStatement, BlockStatement, AssignmentTerm, SpecialAssignmentTerm, ModuleTerm, FunctionTerm, InstanceStatement, StatementTerms, no_statements, and_statement, InstanceTerm, AnInstance, CoreTerm, IfTerm, IfElseTerm, ForTerm, IntersectionForTerm, ModuleCallTerm, BodyTerm, EmptyBody, BlockBody, InstanceBody, statements_from}
 use Rattle.scad_definitions.specs.Newest.{Pairs, one_further}
 
@@ -109,14 +109,15 @@ count_blocks (a_block inner ∷ entities) = suc (count_blocks entities)
 count_blocks (a_function function ∷ entities) = count_blocks entities
 count_blocks (a_module defined ∷ entities) = count_blocks entities
 
--- the numbers of the blocks of the modules' bodies, behind so many blocks: each body begins at its module
+-- the numbers of the blocks of the modules' bodies, behind the given number of blocks: each body begins at its module
 abbrev pub bodies_from : ℕ → List Entity → List ℕ
 bodies_from number [] = []
 bodies_from number (a_block inner ∷ entities) = bodies_from (number + 1) entities
 bodies_from number (a_function function ∷ entities) = bodies_from number entities
 bodies_from number (a_module defined ∷ entities) = number ∷ bodies_from number entities
 
--- the functions that stand in a block, with their numbers, after so many others; those of a bare block in it count as its own
+-- the functions that stand in a block, with their numbers, after the given number of others; those of a bare block in it count
+-- as its own
 abbrev mutual
   pub local_functions : ℕ → StatementTerms → Pairs ℕ
   local_functions before no_statements = []
@@ -214,7 +215,7 @@ pub record LocalTerms : Type 0 where
 abbrev pub no_locals : LocalTerms
 no_locals = record { functions = []; modules = []; assignments = [] }
 
--- a block's local definitions, behind so many functions and modules
+-- a block's local definitions, behind the given number of functions and modules
 abbrev pub locals_of_block : ℕ → ℕ → StatementTerms → LocalTerms
 locals_of_block functions modules statements = record {
   functions = local_functions functions statements;
@@ -233,7 +234,7 @@ pub record SourceBlock : Type 0 where
 abbrev pub nothing_there : SourceBlock
 nothing_there = record { statements = no_statements; local = no_locals; block_end = 0 }
 
--- the block of a number, behind so many functions and modules
+-- the block of a number, behind the given number of functions and modules
 abbrev pub entry_at : ℕ → ℕ → ℕ → StatementTerms → SourceBlock
 entry_at number functions modules statements = record {
   statements = statements;
@@ -241,7 +242,7 @@ entry_at number functions modules statements = record {
   block_end = number + 1 + count_blocks (entities_in statements);
 }
 
--- the blocks that begin in a text, behind so many blocks, functions and modules
+-- the blocks that begin in a text, behind the given number of blocks, functions and modules
 abbrev pub entries_from : ℕ → ℕ → ℕ → List Entity → List SourceBlock
 entries_from number functions modules [] = []
 entries_from number functions modules (a_block statements ∷ entities) =
@@ -268,7 +269,7 @@ block_table program = record {
   bodies = bodies_from 0 (entities_of_program program);
 }
 
--- that the blocks from a number on are those of these entities: whoever walks the statements of a block in order meets
+-- that the blocks from a number on are those of these entities: a walk over the statements of a block in order meets
 -- their blocks one behind the other
 abbrev pub StandAt : BlockTable → ℕ → List Entity → Type 0
 StandAt text number [] = Unit {0}

@@ -11,7 +11,7 @@ abbrev pub find_in : {A : Type 0} → Pairs A → List ℕ → Option A
 find_in [] name = None
 find_in (p ∷ ps) name = if bytes_eq p.0 name then Some p.1 else find_in ps name
 
--- so many of the oldest pairs, where the newest stands first
+-- the given number of the oldest pairs, where the newest stands first
 abbrev pub oldest_pairs : {A : Type 0} → ℕ → List A → List A
 oldest_pairs n xs = drop (length xs - n) xs
 

@@ -1,4 +1,4 @@
--- Blocks in which each definition's number is one of so many.
+-- Blocks in which each definition's number is below a given one.
 use Rattle.std.specs.Prelude.{ℕ, List, [], ◌∷◌, length, Bool, true, ◌&&◌, nat_lt}
 use Rattle.scad_definitions.specs.Newest.{Pairs}
 use Rattle.scad_ast.specs.Terms.{StatementTerm}

@@ -1,3 +1,5 @@
+//! The assignments of a block: a name that is assigned again keeps its place and gets the later expression.
+
 ghost use Rattle.std.specs.Prelude.{◌≡◌, map};
 ghost use Rattle.scad_definitions.specs.Names.{newest_first};
 ghost use Rattle.scad_definitions.specs.Newest.{find_in};

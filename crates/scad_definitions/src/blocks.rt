@@ -1,3 +1,5 @@
+//! The blocks, functions and modules of a program by number.
+
 ghost use Rattle.std.specs.Prelude.{◌≡◌, IsTrue, IfOk, length, map};
 ghost use Rattle.scad_definitions.specs.Numbered.{are_entries_below};
 ghost use Rattle.scad_definitions.specs.TextView.{block_of_entry, names_of_function, names_of_module};

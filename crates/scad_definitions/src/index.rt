@@ -1,3 +1,5 @@
+//! An index from names to places.
+
 ghost use Rattle.std.specs.Prelude.{◌≡◌, ℕ, List, OnOk, OnErr, IfSome, Some, is_some, IsTrue, if◌then◌else◌};
 ghost use Rattle.std.specs.Str.{bytes_eq};
 ghost use Rattle.scad_definitions.specs.Index.{place_of_name};

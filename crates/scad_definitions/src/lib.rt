@@ -1,4 +1,5 @@
-//! A program's blocks and definitions by number, the newest of a name, and a call's arguments by parameter.
+//! The blocks and definitions of a program by number, the newest definition of a name, and the arguments of a call by
+//! parameter.
 #![tactic(auto)]
 
 mod assigned;

@@ -1,3 +1,5 @@
+//! A list of names whose newest of a name is found without a search through all.
+
 ghost use Rattle.std.specs.Prelude.{◌≡◌, ◌≤◌, ℕ, List, length, take, reverse};
 ghost use Rattle.scad_definitions.specs.Newest.{place_of_newest, hidden_places};
 ghost use Rattle.scad_definitions.specs.View.{pairs_in};
@@ -23,7 +25,7 @@ pub(crate) struct Named<T> {
 #[derive(Drop)]
 pub struct NameList<T> {
     pub(crate) items: Vec<Named<T>>,
-    /// For each of the oldest names, so many of them, the place of an older one that it hides.
+    /// For each of the oldest names, up to the given number, the place of an older one that it hides.
     hidden: Vec<Option<usize>>,
     /// By name the place of the newest of these.
     index: BTreeMap<Vec<u8>, usize>,
@@ -101,7 +103,7 @@ impl<T> NameList<T> {
         }
     }
 
-    /// Cuts the names to the oldest, so many of them.
+    /// Cuts the names to the given number of the oldest ones.
     pub fn truncate(&mut self, to: usize)
     where
         T: Drop,

@@ -1,3 +1,5 @@
+//! Finds a definition's parameter by its name.
+
 ghost use Rattle.std.specs.Prelude.{◌≡◌, ◌<◌, ℕ, List, length, map, IfOk, IfSome, OnOk};
 ghost use Rattle.std.specs.Option.{ForSome};
 ghost use Rattle.scad_ast.specs.StatementView.{param_of};

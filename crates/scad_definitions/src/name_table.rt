@@ -1,3 +1,5 @@
+//! The names that a block's scope is expected to bind, shared by all scopes of that block.
+
 ghost use Rattle.std.specs.Prelude.{◌≡◌, ℕ, List, take, reverse};
 ghost use Rattle.scad_definitions.specs.Expected.{newest_place, place_if_before};
 ghost use Rattle.scad_definitions.specs.Index.{place_of_name};

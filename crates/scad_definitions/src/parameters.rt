@@ -1,3 +1,5 @@
+//! Matches the arguments of a call to parameters.
+
 ghost use Rattle.std.specs.Prelude.{◌≡◌, ℕ, ◌+◌, ◌^◌, ◌<◌, ◌≤◌, length, map, replicate, Some, None, slice_index_or, is_some, if◌then◌else◌, IfSome, IfOk};
 ghost use Rattle.scad_ast.specs.ExprView.{arg_of};
 ghost use Rattle.scad_ast.specs.StatementView.{param_of};
@@ -111,7 +113,7 @@ pub(crate) fn count_of(names: Names<'_>) -> usize
     }
 }
 
-/// Nothing yet, for so many parameters.
+/// Nothing yet, for the given number of parameters.
 pub(crate) fn no_arguments_of<'a, T: Drop>(
     alloc: Global,
     params: usize,
@@ -125,7 +127,7 @@ pub(crate) fn no_arguments_of<'a, T: Drop>(
     })
 }
 
-// No bound argument for each of so many parameters.
+// No bound argument for each of the given number of parameters.
 fn all_unbound<T: Drop>(alloc: Global, params: usize) -> Result<Vec<Option<T>>, NoMemory>
     ensures { IfOk result (λ bound. bound.items ≡ replicate params None) }
 {

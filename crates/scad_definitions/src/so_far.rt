@@ -1,3 +1,5 @@
+//! The state of matching while the arguments of a call are gone through.
+
 ghost use Rattle.std.specs.Prelude.{◌≡◌, length};
 ghost use Rattle.std.specs.Option.{ForSome};
 ghost use Rattle.scad_definitions.specs.Names.{newest_first};
@@ -115,7 +117,7 @@ impl<'n, 'a, T: Drop> ArgumentsSoFar<'n, 'a, T> {
         }
     }
 
-    // The parameter that an argument takes after so many positional ones. A special argument takes none.
+    // The parameter that an argument takes after the given number of positional ones. A special argument takes none.
     fn parameter_taken_by(&self, positional: usize, arg: &Arg) -> Option<usize>
         ensures value { result ≡ parameter_taken_by (names_in self.now.names) positional
             (arg_of arg.now) }

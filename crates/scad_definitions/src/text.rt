@@ -1,3 +1,5 @@
+//! What stands in a block, and functions and modules as the source writes them.
+
 ghost use Rattle.std.specs.Prelude.{◌≡◌, ◌++◌, ◌∷◌, [], OnOk};
 ghost use Rattle.scad_definitions.specs.Names.{oldest_first};
 ghost use Rattle.scad_definitions.specs.Blocks.{no_locals};

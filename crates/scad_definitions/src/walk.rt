@@ -1,3 +1,5 @@
+//! The one walk through a program that numbers its blocks, functions and modules.
+
 ghost use Rattle.std.specs.Prelude.{◌≡◌, ◌<◌, ◌+◌, ◌^◌, ◌++◌, [], ◌∷◌, length, IfOk, OnOk};
 ghost use Rattle.scad_ast.specs.Terms.{statements_from, no_statements, and_statement, InstanceStatement};
 ghost use Rattle.scad_ast.specs.ExprView.{term_of};

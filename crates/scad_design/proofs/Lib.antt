@@ -5,7 +5,5 @@ pub mod FullTrees
 pub mod DesignTrees
 pub mod OnePlacing
 pub mod TrimDesigns
-pub mod Deciding
-pub mod FacePlanes
-pub mod SomePlacing
+pub mod lemmas
 pub mod ProperTrees

@@ -2,19 +2,19 @@
 use Rattle.std.proofs.Common.{◌≡◌, ℕ, ◌<◌, ◌≤◌, List, [], ◌∷◌, length, refl, sym, ap, ap₂, subst, ◌∙◌, arith, ℤ, pos, ◌*ℤ◌, neg_ℤ, ◌<ℤ◌, inl, inr, All}
 use Rattle.std.specs.List.{AllZip}
 use Rattle.std.proofs.lemmas.List.Elements.{All-head, All-tail}
-use Rattle.text_place.specs.declared.fault.Place.{Place}
+use Rattle.plain_text.specs.declared.place.Place.{Place}
 use Rattle.text_place.specs.declared.fault.FaultKind.{FaultKind}
 use Rattle.plane_predicate.specs.Space.{Coefficients, value, IsPlane, HasItsPointsOn}
-use Rattle.plane_predicate.proofs.IntegerRing.{sums, zero_mul, mul_comm_ℤ}
-use Rattle.plane_predicate.proofs.SamePlanes.{equal_or_opposite}
-use Rattle.plane_predicate.proofs.Vectors.{value-opposite}
+use Rattle.plane_predicate.proofs.lemmas.IntegerRing.{sums, zero_mul, mul_comm_ℤ}
+use Rattle.plane_predicate.proofs.lemmas.SamePlanes.{equal_or_opposite}
+use Rattle.plane_predicate.proofs.lemmas.Vectors.{value-opposite}
 use Rattle.int_transform.specs.Maps.{map_of}
 use Rattle.primitives.specs.Shapes.{Mesh, mesh_point, IsFaceOfShape, IsPlaneOfFace}
 use Rattle.primitives.specs.Placing.{moved_mesh, distinct_planes}
-use Rattle.primitives.proofs.Distinct.{all_from_distinct}
-use Rattle.primitives.proofs.FacePlanes.{behind_each, body_proportion, far}
-use Rattle.primitives.proofs.Moves.{cancelled}
-use Rattle.primitives.proofs.OnePlane.{not_zero_below}
+use Rattle.primitives.proofs.lemmas.Distinct.{all_from_distinct}
+use Rattle.primitives.proofs.lemmas.FacePlanes.{behind_each, body_proportion, far}
+use Rattle.primitives.proofs.lemmas.Moves.{cancelled}
+use Rattle.primitives.proofs.lemmas.OnePlane.{not_zero_below}
 use Rattle.csg_tree.specs.declared.op.Op.{Op}
 use Rattle.csg_tree.specs.HalfSpaceTrees.{Tree, leaf}
 use Rattle.scad_design.specs.Designs.{DesignTree, empty, a_leaf, joined_designs, MovedShape}

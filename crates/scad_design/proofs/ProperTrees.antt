@@ -6,8 +6,8 @@ use Rattle.plane_predicate.specs.Space.{Coefficients, ComesInReach}
 use Rattle.int_transform.specs.Maps.{map_of}
 use Rattle.primitives.specs.Shapes.{Mesh, IsPlaneOfFace, IsShape}
 use Rattle.primitives.specs.Placing.{moved_mesh}
-use Rattle.primitives.proofs.Distinct.{some_distinct}
-use Rattle.primitives.proofs.Transforms.{planes_meet_reach}
+use Rattle.primitives.proofs.lemmas.Distinct.{some_distinct}
+use Rattle.primitives.proofs.lemmas.Transforms.{planes_meet_reach}
 use Rattle.csg_tree.specs.declared.op.Op.{Op}
 use Rattle.csg_tree.specs.HalfSpaceTrees.{Tree, leaf}
 use Rattle.csg_tree.specs.Joins.{join_of}
@@ -15,7 +15,7 @@ use Rattle.csg_tree.specs.ProperTrees.{subtree_count, IsProper}
 use Rattle.scad_design.specs.Designs.{DesignTree, empty, a_leaf, joined_designs, MovedShape}
 use Rattle.scad_design.specs.Placing.{PlacingOutcome, placing_tree, placing_fault, placing_of_join, IsPlacedLeaf, PlacesDesign, PlacesRight}
 use Rattle.scad_design.specs.Trees.{tree_size, IsPlacedAs, IsSoundDesign}
-use Rattle.scad_design.proofs.FacePlanes.{images_are_in_reach}
+use Rattle.scad_design.proofs.lemmas.FacePlanes.{images_are_in_reach}
 use Rattle.scad_design.proofs.FullTrees.{few_joined}
 
 -- ---- a leaf
@@ -38,7 +38,7 @@ proper_leaf part known planes shape is =
     }
 
 -- ---- a design
--- a proper tree with at most so many subtrees, where there is a tree
+-- a proper tree with at most the given number of subtrees, where there is a tree
 record IsSmall (pieces : ℕ) (tree : Tree) : Type 0 where
   pub proper : IsProper tree
   pub few : subtree_count tree ≤ pieces

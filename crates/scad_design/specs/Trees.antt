@@ -25,7 +25,7 @@ tree_size empty = 1
 tree_size (a_leaf shape) = 1
 tree_size (joined_designs op left right) = 1 + tree_size left + tree_size right
 
--- a stop of placing, behind these planes: the first fault, or want of memory
+-- a stop of placing, behind these planes: the first fault, or that memory ran out
 abbrev pub IsStopOf : DesignTree → List Coefficients → Stop → Type 0
 IsStopOf design known (Fault fault) = PlacesDesign design known (placing_fault fault.kind fault.place)
 IsStopOf design known NoMemory = Unit {0}
@@ -58,7 +58,7 @@ IsSoundDesign empty = Unit {0}
 IsSoundDesign (a_leaf shape) = IsShape shape.mesh × AreRegular shape.steps
 IsSoundDesign (joined_designs op left right) = IsSoundDesign left × IsSoundDesign right
 
--- a stop of a leaf by itself: its first fault, whatever planes were there before it, or want of memory
+-- a stop of a leaf by itself: its first fault, whatever planes were there before it, or that memory ran out
 abbrev pub IsRangeStop : MovedShape → Stop → Type 0
 IsRangeStop shape (Fault fault) = ((known : List Coefficients) → IsPlacingFault shape known fault.kind) × (fault.place ≡ shape.at)
 IsRangeStop shape NoMemory = Unit {0}

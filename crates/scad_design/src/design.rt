@@ -1,3 +1,5 @@
+//! A design: shapes with their steps, joined by operations, before they are placed.
+
 ghost use Rattle.std.specs.Prelude.{◌≡◌, IfOk};
 ghost use Rattle.scad_design.specs.Designs.{moved_design_tree};
 ghost use Rattle.scad_design.specs.View.{plain_of};

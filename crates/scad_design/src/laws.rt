@@ -49,7 +49,7 @@ pub fn placed_trees_are_proper()
         tree_size design < 2 ^ 32 →
         IsPlacedAs design tree → IsProper tree }
 {
-    // Brings a law alone: joins of proper trees are proper.
+    // Called for its law; does nothing when it runs: joins of proper trees are proper.
     joins_are_proper();
 }
 

@@ -1,3 +1,5 @@
+//! One shape of a design with the steps that move it; copies share the shape.
+
 ghost use Rattle.std.specs.Prelude.{◌≡◌, ◌++◌, [], IfOk};
 
 use int_transform::Step;

@@ -6,7 +6,7 @@ use Rattle.scad_scope.specs.Table.{bindings_of}
 use Rattle.scad_func.specs.Limits.{most_calls}
 use Rattle.scad_func.specs.Evaluations.{KeepsEvaluation, OneCallDeeper, OneEvaluationDeeper, MoreBindings}
 use Rattle.scad_func.specs.declared.evaluation.Evaluation.{Evaluation}
-use Rattle.scad_instances.specs.declared.position.Position.{Position}
+use Rattle.scad_instance_rules.specs.declared.position.Position.{Position}
 use Rattle.scad_eval.specs.declared.evaluator.InstanceEvaluator.{InstanceEvaluator}
 use Rattle.scad_meaning.specs.Meaning.{with_calls_left, with_bindings}
 use Rattle.scad_eval.specs.Keeping.{context_at}

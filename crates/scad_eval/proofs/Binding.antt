@@ -8,7 +8,7 @@ use Rattle.scad_definitions.specs.declared.text.Assignment.{Assignment}
 use Rattle.scad_definitions.specs.TextView.{source_assignment_of}
 use Rattle.scad_func.specs.Meaning.{Outcome, Gives, Faults, then_with}
 use Rattle.scad_meaning.specs.Meaning.{Context, assigned_value, with_assignment, each_assignment}
-use Rattle.scad_instances.specs.Seen.{HasOutcome}
+use Rattle.scad_instance_rules.specs.Seen.{HasOutcome}
 use Rattle.scad_eval.proofs.Outcomes.{along, stop_outcome}
 
 -- one assignment behind another

@@ -4,7 +4,7 @@ use Rattle.std.specs.Prelude.{IsTrue, unsigned_abs, int_lt, if◌then◌else◌}
 use Rattle.std.proofs.lemmas.Bool.{and_parts, ltb-true}
 use Rattle.std.proofs.Math.Nat.{div-le_self}
 use Rattle.std.proofs.lemmas.Int.{ints}
-use Rattle.text_place.specs.Decimals.{least_too_large}
+use Rattle.plain_text.specs.Decimals.{least_too_large}
 use Rattle.scad_value.specs.Values.{Val, NumberVal, TruthVal, TextVal, ListVal, RangeVal, UndefVal, Vals, no_vals, and_val, count_of, element_count, element_count_in, is_small, has_small_numbers, have_small_numbers, is_bounded, least_too_many_elements}
 use Rattle.scad_meaning.specs.Loops.{iterated_values, numbers_by, number_vals, numbers_of_range, count_of_range}
 use Rattle.scad_eval.specs.Variables.{most_values}

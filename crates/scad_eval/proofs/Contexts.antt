@@ -12,12 +12,12 @@ use Rattle.scad_func.specs.View.{env_seen}
 use Rattle.scad_func.specs.Evaluations.{KeepsEvaluation, KeepsAllButScopes, env_here}
 use Rattle.scad_func.specs.declared.source.Source.{Source}
 use Rattle.scad_meaning.specs.declared.extrusion.Extrusion.{Extrusion}
-use Rattle.scad_instances.specs.declared.position.Position.{Position}
+use Rattle.scad_instance_rules.specs.declared.position.Position.{Position}
 use Rattle.scad_eval.specs.declared.evaluator.InstanceEvaluator.{InstanceEvaluator}
 use Rattle.scad_meaning.specs.Verdicts.{Judge}
 use Rattle.scad_meaning.specs.Meaning.{Context, evaluator_with, inside_scope}
 use Rattle.scad_eval.specs.Keeping.{evaluations_left, evaluator_at, context_at, IsCheckedInside, Stays, Enters, KeepsOlder, Assigns, Equation, outcome_at}
-use Rattle.scad_func.proofs.Kept.{keeps_same, keeps_trans, scope_setting}
+use Rattle.scad_func.proofs.lemmas.Kept.{keeps_same, keeps_trans, scope_setting}
 
 -- where an instance stands, by where an expression there stands
 abbrev context_by : ExpressionContext → Position → Context

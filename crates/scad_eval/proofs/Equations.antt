@@ -5,7 +5,7 @@ use Rattle.std.specs.Prelude.{OnOk}
 use Rattle.text_place.specs.declared.fault.Stop.{Stop}
 use Rattle.text_place.specs.declared.fault.Stop.TheVariants.{Fault, NoMemory}
 use Rattle.text_place.specs.declared.fault.FaultKind.{FaultKind}
-use Rattle.text_place.specs.declared.fault.Place.{Place}
+use Rattle.plain_text.specs.declared.place.Place.{Place}
 use Rattle.csg_tree.specs.declared.op.Op.{Op}
 use Rattle.scad_ast.specs.Terms.{StatementTerms, InstanceTerm, BodyTerm}
 use Rattle.scad_value.specs.Values.{Val}
@@ -23,16 +23,16 @@ use Rattle.scad_value.specs.Operators.{AnswerOrFault}
 use Rattle.scad_modules.specs.Effects.{ChosenCall, EffectCall}
 use Rattle.scad_modules.specs.Calls.{effect_of}
 use Rattle.scad_modules.specs.declared.table.BuiltinModule.{BuiltinModule}
-use Rattle.scad_instances.specs.declared.position.NumberedBody.{NumberedBody}
-use Rattle.scad_instances.specs.declared.position.Position.{Position}
-use Rattle.scad_instances.specs.declared.position.InstanceResult.{InstanceResult}
-use Rattle.scad_instances.specs.declared.position.MemberResults.{MemberResults}
+use Rattle.scad_instance_rules.specs.declared.position.NumberedBody.{NumberedBody}
+use Rattle.scad_instance_rules.specs.declared.position.Position.{Position}
+use Rattle.scad_instance_rules.specs.declared.position.InstanceResult.{InstanceResult}
+use Rattle.scad_instance_rules.specs.declared.position.MemberResults.{MemberResults}
 use Rattle.scad_eval.specs.declared.evaluator.InstanceEvaluator.{InstanceEvaluator}
 use Rattle.scad_meaning.specs.Verdicts.{Judge}
 use Rattle.scad_meaning.specs.Bodies.{has_root_modifier}
 use Rattle.scad_meaning.specs.Meaning.{Context, InstanceDesign, MemberDesigns, Evaluator, inside_scope, with_bindings, with_calls_left, inside_root, expression_context, evaluator_with, instance_design, core_design, core_of_instance, joined_members, body_design, each_member, children_design, effect_design, answered_with, no_members, and_members, as_root, block_members, built_in_with_arguments, chosen_children, instances_chosen}
-use Rattle.scad_instances.specs.Seen.{HasOutcome, instance_design_of, member_designs_of, one_member_of, IsLengthened, members_in_front}
-use Rattle.scad_instances.specs.Calls.{MeetsEffectAt}
+use Rattle.scad_instance_rules.specs.Seen.{HasOutcome, instance_design_of, member_designs_of, one_member_of, IsLengthened, members_in_front}
+use Rattle.scad_instance_rules.specs.Calls.{MeetsEffectAt}
 use Rattle.scad_eval.specs.Within.{body_seen, IsBodyAt}
 use Rattle.scad_eval.specs.Keeping.{evaluations_left, evaluator_at, context_at, Stays, Enters, Assigns, Equation, outcome_at, EvaluatesKeeping}
 use Rattle.scad_eval.proofs.Outcomes.{along, front_of_none, no_memory}

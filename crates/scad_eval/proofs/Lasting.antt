@@ -3,21 +3,21 @@ use Rattle.std.proofs.Common.{◌≡◌, ℕ, zero, suc, ◌+◌, ◌*◌, ◌<�
 use Rattle.std.proofs.lemmas.List.Sums.{sum_by_push}
 use Rattle.std.proofs.lemmas.List.{length-map}
 use Rattle.std.proofs.Math.Nat.{suc-mul, mul-le-mul}
-use Rattle.text_place.specs.declared.fault.Place.{Place}
+use Rattle.plain_text.specs.declared.place.Place.{Place}
 use Rattle.scad_ast.specs.declared.statement.Binder.{Binder}
 use Rattle.scad_ast.specs.Terms.{BodyTerm}
 use Rattle.scad_ast.specs.StatementView.{binder_of}
 use Rattle.scad_value.specs.Values.{Val, Vals, no_vals, and_val, count_of}
-use Rattle.scad_instances.specs.declared.items.Items.{Items}
-use Rattle.scad_instances.specs.Items.{remaining_in}
-use Rattle.scad_instances.specs.declared.position.Position.{Position}
+use Rattle.scad_instance_rules.specs.declared.items.Items.{Items}
+use Rattle.scad_instance_rules.specs.Items.{remaining_in}
+use Rattle.scad_instance_rules.specs.declared.position.Position.{Position}
 use Rattle.scad_eval.specs.declared.evaluator.InstanceEvaluator.{InstanceEvaluator}
 use Rattle.scad_eval.specs.declared.open_variable.OpenVariable.{OpenVariable}
 use Rattle.scad_eval.specs.declared.open_variable.Inside.{Inside}
 use Rattle.scad_eval.specs.declared.open_variable.Inside.TheVariants.{Variable, Members}
 use Rattle.scad_eval.specs.Variables.{most_values, IsNext, IsSameVariable, TakesStep, no_step, a_step, no_memory}
 
--- what the steps of so many variables in one another count for at most
+-- what the steps of the given number of variables in one another count for at most
 unfoldable pub weight : ℕ → ℕ
 weight zero = 1
 weight (suc count) = (2 * most_values + 2) * weight count

@@ -8,15 +8,15 @@ use Rattle.primitives.specs.Sizes.{IsSizeStop}
 use Rattle.primitives.specs.declared.stop.ShapeStop.{ShapeStop}
 use Rattle.primitives.specs.declared.stop.ShapeStop.TheVariants as shapes
 use Rattle.scad_meaning.specs.declared.extrusion.Extrusion.{Extrusion}
-use Rattle.text_place.specs.declared.fault.Place.{Place}
+use Rattle.plain_text.specs.declared.place.Place.{Place}
 use Rattle.primitives.specs.Shapes.{Mesh}
 use Rattle.scad_meaning.specs.Verdicts.{Verdict}
 use Rattle.scad_func.specs.Meaning.{Outcome, Gives, then_with}
 use Rattle.scad_meaning.specs.Hulls.{is_nothing, hull_mesh}
 use Rattle.scad_meaning.specs.Meaning.{InstanceDesign, unless_refused, leaf_design, with_leaf_of, hull_design}
-use Rattle.scad_instances.specs.Seen.{IsStopAt}
+use Rattle.scad_instance_rules.specs.Seen.{IsStopAt}
 use Rattle.scad_eval.specs.Keeping.{IsCheckedExtrusion}
-use Rattle.scad_meaning.proofs.Verdicts.{one_height_verdict}
+use Rattle.scad_meaning.proofs.lemmas.Verdicts.{one_height_verdict}
 
 pub shape_checked : (v : Verdict) (at : Place) (mesh shape : Mesh) (turns leaves : ℕ) → v ≡ None → shape ≡ mesh
     → unless_refused v at (leaf_design at mesh turns leaves) ≡ leaf_design at shape turns leaves

@@ -5,13 +5,13 @@ use Rattle.text_place.specs.declared.fault.Stop.{Stop}
 use Rattle.text_place.specs.declared.fault.Stop.TheVariants.{Fault, NoMemory}
 use Rattle.scad_ast.specs.Terms.{InstanceTerm, AnInstance}
 use Rattle.scad_func.specs.Meaning.{Outcome, Gives, Faults, Env, then_with}
-use Rattle.scad_instances.specs.declared.position.InstanceResult.{InstanceResult}
-use Rattle.scad_instances.specs.declared.numbered.NumberedInstance.{NumberedInstance}
+use Rattle.scad_instance_rules.specs.declared.position.InstanceResult.{InstanceResult}
+use Rattle.scad_instance_rules.specs.declared.numbered.NumberedInstance.{NumberedInstance}
 use Rattle.scad_meaning.specs.Bodies.{has_no_geometry, is_child}
 use Rattle.scad_meaning.specs.Meaning.{InstanceDesign, MemberDesigns, as_member, and_members, core_of_instance}
-use Rattle.scad_instances.specs.Positions.{term_of_numbered}
+use Rattle.scad_instance_rules.specs.Positions.{term_of_numbered}
 use Rattle.scad_func.specs.View.{MeetsOutcome}
-use Rattle.scad_instances.specs.Seen.{HasOutcome, instance_design_of, one_member_of, members_in_front}
+use Rattle.scad_instance_rules.specs.Seen.{HasOutcome, instance_design_of, one_member_of, members_in_front}
 
 flipped : (b : Bool) → (if b then false else true) ≡ not b
 flipped true = refl

@@ -1,4 +1,4 @@
--- The scope in which is evaluated stays the newest.
+-- The current scope stays the newest.
 use Rattle.std.proofs.Common.{◌≡◌, ℕ, ◌+◌, ◌++◌, length, Option, Result, Ok, sym, ap, ◌∙◌}
 use Rattle.std.proofs.lemmas.Result.{IfOk-at_ok}
 use Rattle.std.specs.declared.vec.Vec.{Vec}

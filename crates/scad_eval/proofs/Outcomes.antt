@@ -5,11 +5,11 @@ use Rattle.text_place.specs.declared.fault.Stop.TheVariants.{Fault, NoMemory}
 use Rattle.scad_design.specs.Designs.{DesignTree}
 use Rattle.scad_func.specs.Meaning.{Outcome, Gives, Faults, then_with}
 use Rattle.scad_func.specs.View.{MeetsOutcome, IsNoMemory}
-use Rattle.scad_instances.specs.declared.position.MemberResults.{MemberResults}
+use Rattle.scad_instance_rules.specs.declared.position.MemberResults.{MemberResults}
 use Rattle.scad_meaning.specs.Meaning.{MemberDesigns, no_members, and_members, first_root}
-use Rattle.scad_instances.specs.Seen.{HasOutcome, member_designs_of, IsLengthened, members_in_front}
+use Rattle.scad_instance_rules.specs.Seen.{HasOutcome, member_designs_of, IsLengthened, members_in_front}
 
--- what was told of an outcome is told of an equal one
+-- what was said about an outcome holds for an equal one
 pub along : {A B : Type 0} {see : ℕ → A → B} {r : Result A Stop} {turns leaves : ℕ} {a b : Outcome B}
     → a ≡ b → HasOutcome see r turns leaves b → HasOutcome see r turns leaves a
 along {see = see} {r = r} {turns = turns} {leaves = leaves} e h = subst (λ o. HasOutcome see r turns leaves o) (sym e) h
@@ -31,7 +31,7 @@ pub stop_outcome : {A B C D : Type 0} {see : ℕ → A → B} {after : ℕ → C
 stop_outcome {see = see} {after = after} {stop = stop} {m = m} {l = l} {n = n} {k = k} {out = out} go h =
     record { is = stops see after stop m l n k out go h.is }
 
--- want of memory tells nothing
+-- running out of memory says nothing
 pub no_memory : {A B : Type 0} {see : ℕ → A → B} {stop : Stop} {m l : ℕ} {out : Outcome B}
     → stop ≡ NoMemory → HasOutcome see (Err stop) m l out
 no_memory {see = see} {m = m} {l = l} {out = out} e = subst (λ (s : Stop). HasOutcome see (Err s) m l out) (sym e) (record { is = tt })

@@ -24,15 +24,15 @@ use Rattle.scad_design.specs.Designs.{DesignTree}
 use Rattle.scad_design.specs.Trees.{IsPlacedAs, IsStopOf}
 use Rattle.scad_design.specs.View.{plain_of}
 use Rattle.scad_design.specs.declared.design.Design.{Design}
-use Rattle.scad_instances.specs.declared.position.Position.{Position}
-use Rattle.scad_instances.specs.declared.position.MemberResults.{MemberResults}
+use Rattle.scad_instance_rules.specs.declared.position.Position.{Position}
+use Rattle.scad_instance_rules.specs.declared.position.MemberResults.{MemberResults}
 use Rattle.scad_eval.specs.declared.evaluator.InstanceEvaluator.{InstanceEvaluator}
 use Rattle.scad_meaning.specs.Verdicts.{Judge, IsRightJudge}
 use Rattle.scad_meaning.specs.Meaning.{Context, evaluator_with, each_in_scope, program_context, root_or_union, design_of, block_members}
-use Rattle.scad_instances.specs.Seen.{HasOutcome, member_designs_of}
+use Rattle.scad_instance_rules.specs.Seen.{HasOutcome, member_designs_of}
 use Rattle.scad_eval.specs.Keeping.{context_at, EvaluatesKeeping}
 use Rattle.scad_meaning.specs.Sources.{a_tree, a_fault, IsMeaning, IsMeaningOfDesign, IsMeaningStop, HoldsFault}
-use Rattle.scad_meaning.proofs.ProgramPlaces.{stop_held}
+use Rattle.scad_meaning.proofs.lemmas.ProgramPlaces.{stop_held}
 use Rattle.scad_eval.specs.Programs.{MeetsDesign}
 use Rattle.scad_eval.proofs.Evaluating.{tree_meant, placing_stops}
 use Rattle.scad_eval.proofs.Outcomes.{along, stop_outcome}

@@ -8,15 +8,15 @@ use Rattle.scad_func.specs.View.{table_in}
 use Rattle.scad_func.specs.Definitions.{IsBlockOf, IsWholeTable}
 use Rattle.scad_func.specs.Evaluations.{KeepsAllButScopes, OneScopeMore}
 use Rattle.scad_func.specs.declared.source.Source.{Source}
-use Rattle.scad_instances.specs.declared.numbered.NumberedInstance.{NumberedInstance}
-use Rattle.scad_instances.specs.declared.position.NumberedBody.{NumberedBody}
-use Rattle.scad_instances.specs.declared.position.Position.{Position}
-use Rattle.scad_instances.specs.Listing.{AreInstancesOf}
-use Rattle.scad_instances.specs.Positions.{HasBlocks}
+use Rattle.scad_instance_rules.specs.declared.numbered.NumberedInstance.{NumberedInstance}
+use Rattle.scad_instance_rules.specs.declared.position.NumberedBody.{NumberedBody}
+use Rattle.scad_instance_rules.specs.declared.position.Position.{Position}
+use Rattle.scad_instance_rules.specs.Listing.{AreInstancesOf}
+use Rattle.scad_instance_rules.specs.Positions.{HasBlocks}
 use Rattle.scad_eval.specs.declared.evaluator.InstanceEvaluator.{InstanceEvaluator}
 use Rattle.scad_eval.specs.Keeping.{IsPosition, Stays, Binds, Assigns}
 use Rattle.scad_eval.specs.Within.{IsInBlock, IsInstanceAt, IsBodyAt, IsCallAt}
-use Rattle.scad_scope.proofs.Chain.{oldest_part}
+use Rattle.scad_scope.proofs.lemmas.Chain.{oldest_part}
 use Rattle.scad_eval.proofs.Contexts.{checked_still}
 
 -- where unit and source stay

@@ -1,17 +1,17 @@
--- What is told of a step, told of where an earlier step began.
+-- What a contract says about a step, said about where an earlier step began.
 use Rattle.std.proofs.Common.{◌≡◌, ℕ, Result, Ok, Err, refl, sym, ap, ◌∙◌}
 use Rattle.text_place.specs.declared.fault.Stop.{Stop}
 use Rattle.csg_tree.specs.declared.op.Op.{Op}
 use Rattle.scad_func.specs.Meaning.{Outcome, Gives, then_with, ExpressionContext}
 use Rattle.scad_func.specs.Evaluations.{EvaluatesTo, expression_context_here}
 use Rattle.scad_func.specs.declared.evaluation.Evaluation.{Evaluation}
-use Rattle.scad_instances.specs.declared.position.Position.{Position}
-use Rattle.scad_instances.specs.declared.position.InstanceResult.{InstanceResult}
-use Rattle.scad_instances.specs.declared.position.MemberResults.{MemberResults}
+use Rattle.scad_instance_rules.specs.declared.position.Position.{Position}
+use Rattle.scad_instance_rules.specs.declared.position.InstanceResult.{InstanceResult}
+use Rattle.scad_instance_rules.specs.declared.position.MemberResults.{MemberResults}
 use Rattle.scad_eval.specs.declared.evaluator.InstanceEvaluator.{InstanceEvaluator}
 use Rattle.scad_meaning.specs.Verdicts.{Judge, IsRightJudge}
 use Rattle.scad_meaning.specs.Meaning.{InstanceDesign, MemberDesigns, joined_members}
-use Rattle.scad_instances.specs.Seen.{instance_design_of, member_designs_of}
+use Rattle.scad_instance_rules.specs.Seen.{instance_design_of, member_designs_of}
 use Rattle.scad_eval.specs.Keeping.{evaluator_at, context_at, Stays, Equation, outcome_at, EvaluatesKeeping, EvaluatesAt}
 use Rattle.scad_eval.proofs.Outcomes.{along, then_outcome, stop_outcome, outcome_with, told_outcome}
 use Rattle.scad_eval.proofs.Contexts.{stays_after, meant_after}

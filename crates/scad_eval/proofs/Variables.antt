@@ -5,7 +5,7 @@ use Rattle.text_place.specs.declared.fault.Stop.{Stop}
 use Rattle.text_place.specs.declared.fault.Stop.TheVariants.{Fault, NoMemory}
 use Rattle.text_place.specs.declared.fault.FaultKind.{FaultKind}
 use Rattle.text_place.specs.declared.fault.FaultKind.TheVariants.{TypeMismatch}
-use Rattle.text_place.specs.declared.fault.Place.{Place}
+use Rattle.plain_text.specs.declared.place.Place.{Place}
 use Rattle.scad_ast.specs.declared.statement.Binder.{Binder}
 use Rattle.scad_ast.specs.Terms.{BodyTerm, BinderTerm}
 use Rattle.scad_ast.specs.ExprView.{term_of}
@@ -20,18 +20,18 @@ use Rattle.scad_func.specs.declared.source.Source.{Source}
 use Rattle.scad_meaning.specs.Loops.{iterated_values}
 use Rattle.scad_meaning.specs.Verdicts.{Judge, IsRightJudge}
 use Rattle.scad_meaning.specs.Meaning.{Context, MemberDesigns, Evaluator, first_root, counted_step, each_step, each_iteration, in_loop}
-use Rattle.scad_instances.specs.declared.items.Items.{Items}
-use Rattle.scad_instances.specs.declared.position.MemberResults.{MemberResults}
-use Rattle.scad_instances.specs.declared.position.Position.{Position}
-use Rattle.scad_instances.specs.Items.{remaining_in}
-use Rattle.scad_instances.specs.Seen.{HasOutcome, member_designs_of, members_in_front}
+use Rattle.scad_instance_rules.specs.declared.items.Items.{Items}
+use Rattle.scad_instance_rules.specs.declared.position.MemberResults.{MemberResults}
+use Rattle.scad_instance_rules.specs.declared.position.Position.{Position}
+use Rattle.scad_instance_rules.specs.Items.{remaining_in}
+use Rattle.scad_instance_rules.specs.Seen.{HasOutcome, member_designs_of, members_in_front}
 use Rattle.scad_eval.specs.declared.evaluator.InstanceEvaluator.{InstanceEvaluator}
 use Rattle.scad_eval.specs.declared.open_variable.OpenVariable.{OpenVariable}
 use Rattle.scad_eval.specs.declared.open_variable.Inside.{Inside}
 use Rattle.scad_eval.specs.declared.open_variable.Inside.TheVariants.{Variable, Members}
 use Rattle.scad_eval.specs.Keeping.{evaluator_at, context_at, Stays, Enters, outcome_at, EvaluatesAt}
 use Rattle.scad_eval.specs.Variables.{IsSameVariable, EndsStep, steps_left, left_inside, IsStopOf, IsPaused, OpensVariable, GoesInside, BeginsStep, TakesStep, no_step, a_step, no_memory}
-use Rattle.scad_func.proofs.Kept.{scope_kept}
+use Rattle.scad_func.proofs.lemmas.Kept.{scope_kept}
 use Rattle.scad_eval.proofs.Contexts.{stays_then, stays_kept, meant_after}
 use Rattle.scad_eval.proofs.Equations.{entered_meant, begun_front}
 use Rattle.scad_eval.proofs.Outcomes.{front_twice, no_memory as without_memory}

@@ -12,12 +12,12 @@ use Rattle.scad_func.specs.View.{env_seen, table_in}
 use Rattle.scad_func.specs.Definitions.{IsWholeTable}
 use Rattle.scad_func.specs.Evaluations.{KeepsEvaluation, KeepsAllButScopes, scopes_there, env_here, OneScopeMore}
 use Rattle.scad_meaning.specs.declared.extrusion.Extrusion.{Extrusion}
-use Rattle.scad_instances.specs.declared.position.Position.{Position}
-use Rattle.scad_instances.specs.Listing.{AreInstancesOf}
+use Rattle.scad_instance_rules.specs.declared.position.Position.{Position}
+use Rattle.scad_instance_rules.specs.Listing.{AreInstancesOf}
 use Rattle.scad_eval.specs.declared.evaluator.InstanceEvaluator.{InstanceEvaluator}
 use Rattle.scad_meaning.specs.Verdicts.{Judge, IsRightJudge}
 use Rattle.scad_meaning.specs.Meaning.{Context, Evaluator, evaluator_with}
-use Rattle.scad_instances.specs.Seen.{HasOutcome}
+use Rattle.scad_instance_rules.specs.Seen.{HasOutcome}
 
 -- how many evaluations in one another are left
 abbrev pub evaluations_left : InstanceEvaluator → ℕ
@@ -31,7 +31,7 @@ evaluator_at evaluator judge = evaluator_with evaluator.unit judge (evaluations_
 abbrev pub env_at : InstanceEvaluator → ℕ → Env
 env_at evaluator scope = env_seen evaluator.evaluation.source.now (rows_of evaluator.evaluation.scopes.now) scope
 
--- the context of an instance of the scope in which is evaluated
+-- the context of an instance of the current scope
 abbrev pub context_at : InstanceEvaluator → Position → Context
 context_at evaluator position = record {
   calls_left = most_calls - evaluator.evaluation.calls;

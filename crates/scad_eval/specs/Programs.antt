@@ -10,7 +10,7 @@ use Rattle.scad_design.specs.declared.design.Design.{Design}
 use Rattle.scad_design.specs.View.{plain_of}
 use Rattle.scad_meaning.specs.Verdicts.{Judge, IsRightJudge}
 use Rattle.scad_meaning.specs.Meaning.{design_of}
-use Rattle.scad_instances.specs.Seen.{HasOutcome}
+use Rattle.scad_instance_rules.specs.Seen.{HasOutcome}
 
 -- the design of a program, or its fault, unless memory ran out
 abbrev pub MeetsDesign : LengthUnit → List StatementTerm → Result Design Stop → Type 0

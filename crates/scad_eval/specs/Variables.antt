@@ -2,7 +2,7 @@
 use Rattle.std.specs.Prelude.{◌≡◌, ℕ, ◌+◌, ◌^◌, ◌≤◌, true, [], ◌∷◌, ◌++◌, List, length, map, Result, Ok, Err, OnOk, IfOk}
 use Rattle.text_place.specs.declared.fault.Stop.{Stop}
 use Rattle.text_place.specs.declared.fault.Stop.TheVariants.{Fault, NoMemory}
-use Rattle.text_place.specs.declared.fault.Place.{Place}
+use Rattle.plain_text.specs.declared.place.Place.{Place}
 use Rattle.text_place.specs.declared.fault.FaultKind.TheVariants.{TypeMismatch}
 use Rattle.scad_ast.specs.declared.statement.Binder.{Binder}
 use Rattle.scad_ast.specs.Terms.{BodyTerm, BinderTerm}
@@ -16,11 +16,11 @@ use Rattle.scad_func.specs.declared.evaluation.Evaluation.{Evaluation}
 use Rattle.scad_meaning.specs.Loops.{iterated_values}
 use Rattle.scad_meaning.specs.Verdicts.{Judge, IsRightJudge}
 use Rattle.scad_meaning.specs.Meaning.{Context, MemberDesigns, Evaluator, no_members, counted_step, each_step, each_iteration, in_loop}
-use Rattle.scad_instances.specs.declared.items.Items.{Items}
-use Rattle.scad_instances.specs.Items.{remaining_in}
-use Rattle.scad_instances.specs.Seen.{member_designs_of, members_in_front}
-use Rattle.scad_instances.specs.declared.position.MemberResults.{MemberResults}
-use Rattle.scad_instances.specs.declared.position.Position.{Position}
+use Rattle.scad_instance_rules.specs.declared.items.Items.{Items}
+use Rattle.scad_instance_rules.specs.Items.{remaining_in}
+use Rattle.scad_instance_rules.specs.Seen.{member_designs_of, members_in_front}
+use Rattle.scad_instance_rules.specs.declared.position.MemberResults.{MemberResults}
+use Rattle.scad_instance_rules.specs.declared.position.Position.{Position}
 use Rattle.scad_eval.specs.declared.evaluator.InstanceEvaluator.{InstanceEvaluator}
 use Rattle.scad_eval.specs.declared.open_variable.OpenVariable.{OpenVariable}
 use Rattle.scad_eval.specs.declared.open_variable.Inside.{Inside}
@@ -46,7 +46,7 @@ pub record OpensVariable (old new : Evaluation) (place : Place) (binder : Binder
       or_fault (iterated_values value) TypeMismatch place (Gives turns)))
   pub begun : IfOk result (IsBegun old.scope binder rest)
 
--- What enters the scope in which a variable has a value, unless memory ran out. The scope in which is evaluated stays the newest.
+-- What enters the scope in which a variable has a value, unless memory ran out. The current scope stays the newest.
 pub record EntersVariable {A E : Type 0} (old new : Evaluation) (result : Result A E) (name : List ℕ) (value : Val) : Type 0 where
   pub entered : OnOk result (OneScopeMore old new old.scope)
   pub inside : OnOk result (env_here new ≡ InnerScope ((name, value) ∷ []) [] [] no_activation (env_here old))
@@ -90,12 +90,13 @@ abbrev pub MeetsLeft : {A B : Type 0} → (A → Outcome B) → Result A Stop �
 MeetsLeft left (Ok x) out = out ≡ left x
 MeetsLeft left (Err stop) out = IsStopOf out stop
 
--- the values of a variable were evaluated in the scope in which is evaluated
+-- the values of a variable were evaluated in the current scope
 abbrev pub IsPaused : ℕ → Inside → Type 0
 IsPaused scope (Variable variable) = variable.outside ≡ scope
 IsPaused scope (Members members) = Unit {0}
 
--- what stands inside so many variables' values: one variable more, with no more values than there may be, or members
+-- what stands inside the given number of variables' values: one variable more, with no more values than there may be, or
+-- members
 abbrev pub IsNext : ℕ → Inside → Type 0
 IsNext count (Variable variable) = (length variable.rest.now + 1 ≡ count) × (count_of (remaining_in variable.items.remaining) ≤ most_values)
 IsNext count (Members members) = Unit {0}

@@ -7,12 +7,12 @@ use Rattle.scad_definitions.specs.declared.text.Module.{Module}
 use Rattle.scad_func.specs.Definitions.{IsBlockOf, IsWholeTable}
 use Rattle.scad_func.specs.Evaluations.{scopes_there}
 use Rattle.scad_func.specs.View.{table_in}
-use Rattle.scad_instances.specs.declared.numbered.NumberedInstance.{NumberedInstance}
-use Rattle.scad_instances.specs.declared.position.NumberedBody.{NumberedBody}
-use Rattle.scad_instances.specs.declared.position.Position.{Position}
-use Rattle.scad_instances.specs.declared.table.InstanceTable.{InstanceTable}
-use Rattle.scad_instances.specs.Listing.{AreInstancesOf}
-use Rattle.scad_instances.specs.Positions.{HasBlocks}
+use Rattle.scad_instance_rules.specs.declared.numbered.NumberedInstance.{NumberedInstance}
+use Rattle.scad_instance_rules.specs.declared.position.NumberedBody.{NumberedBody}
+use Rattle.scad_instance_rules.specs.declared.position.Position.{Position}
+use Rattle.scad_instance_rules.specs.declared.table.InstanceTable.{InstanceTable}
+use Rattle.scad_instance_rules.specs.Listing.{AreInstancesOf}
+use Rattle.scad_instance_rules.specs.Positions.{HasBlocks}
 use Rattle.scad_eval.specs.declared.evaluator.InstanceEvaluator.{InstanceEvaluator}
 use Rattle.scad_eval.specs.Keeping.{IsCheckedInside, IsPosition}
 
@@ -34,8 +34,8 @@ pub record IsBodyAt (evaluator : InstanceEvaluator) (stand : Position) (body : N
   pub position : IsPosition evaluator stand
   pub block : IsInBlock (table_in evaluator.evaluation.source.now) body
 
--- a call of a module in a whole source with its instances: its body stands in its block, and the module's in its own, and the scope of the
--- module is there
+-- a call of a module in a whole source with its instances: its body stands in its block, and the module's in its own, and the
+-- scope of the module is there
 pub record IsModuleCall (evaluator : InstanceEvaluator) (instances : InstanceTable) (defined : Module) (defining_scope : ℕ) (body : NumberedBody) : Type 0 where
   pub whole : IsWholeTable (table_in evaluator.evaluation.source.now)
   pub listed : AreInstancesOf (table_in evaluator.evaluation.source.now) instances

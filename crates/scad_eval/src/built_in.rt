@@ -11,7 +11,7 @@ ghost use Rattle.scad_modules.specs.Table.{builtin_module_of};
 ghost use Rattle.scad_modules.specs.View.{effect_call_of};
 ghost use Rattle.scad_design.specs.Designs.{moved_design_tree};
 ghost use Rattle.scad_meaning.specs.Meaning.{built_in_design, effect_design, body_design, moved_design, built_in_with_arguments};
-ghost use Rattle.scad_instances.specs.Seen.{instance_design_of};
+ghost use Rattle.scad_instance_rules.specs.Seen.{instance_design_of};
 ghost use Rattle.scad_eval.specs.Keeping.{EvaluatesAt};
 ghost use Rattle.scad_eval.specs.Within.{body_seen, IsBodyAt};
 
@@ -21,7 +21,7 @@ use int_transform::Step;
 use primitives::size_fault;
 use scad_ast::Args;
 use scad_func::with;
-use scad_instances::{
+use scad_instance_rules::{
     InstanceResult, NumberedBody, Position, arguments_for, effect_of, unknown_module,
     without_geometry,
 };

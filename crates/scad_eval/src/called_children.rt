@@ -4,12 +4,12 @@ ghost use Rattle.scad_func.specs.Meaning.{activation_in};
 ghost use Rattle.scad_modules.specs.Bounds.{IsSafeChoice};
 ghost use Rattle.scad_modules.specs.View.{chosen_of};
 ghost use Rattle.scad_meaning.specs.Meaning.{children_design, chosen_children, counted_children};
-ghost use Rattle.scad_instances.specs.Seen.{instance_design_of};
+ghost use Rattle.scad_instance_rules.specs.Seen.{instance_design_of};
 ghost use Rattle.scad_eval.specs.Keeping.{IsPosition, EvaluatesAt};
 
 use crate::evaluator::InstanceEvaluator;
 use csg_tree::Op;
-use scad_instances::{InstanceResult, Position, join_members, nothing_made};
+use scad_instance_rules::{InstanceResult, Position, join_members, nothing_made};
 use scad_modules::Chosen;
 use text_place::{Place, Stop};
 

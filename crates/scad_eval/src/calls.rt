@@ -7,7 +7,7 @@ ghost use Rattle.scad_definitions.specs.TextView.{module_of};
 ghost use Rattle.scad_func.specs.Meaning.{visible_module};
 ghost use Rattle.scad_func.specs.View.{arguments_of, values_seen};
 ghost use Rattle.scad_meaning.specs.Meaning.{call_design, module_design, module_with_values, module_with_arguments};
-ghost use Rattle.scad_instances.specs.Seen.{instance_design_of};
+ghost use Rattle.scad_instance_rules.specs.Seen.{instance_design_of};
 ghost use Rattle.scad_eval.specs.Keeping.{env_at, EvaluatesAt};
 ghost use Rattle.scad_eval.specs.Within.{body_seen, IsBodyAt, IsCallAt};
 
@@ -15,7 +15,7 @@ use crate::evaluator::InstanceEvaluator;
 use csg_tree::Op;
 use scad_ast::Args;
 use scad_func::{BoundedValues, arguments, parameters_in, with};
-use scad_instances::{InstanceResult, NumberedBody, Position, join_members};
+use scad_instance_rules::{InstanceResult, NumberedBody, Position, join_members};
 use scad_scope::{CallArguments, Module};
 use scad_value::BoundedValue;
 use text_place::{Place, Stop};

@@ -11,7 +11,7 @@ ghost use Rattle.scad_eval.specs.Within.{body_seen, IsModuleCall};
 
 use crate::evaluator::InstanceEvaluator;
 use scad_func::BoundedValues;
-use scad_instances::{InstanceTable, NumberedBody, count_children};
+use scad_instance_rules::{InstanceTable, NumberedBody, count_children};
 use scad_scope::Module;
 use text_place::NoMemory;
 

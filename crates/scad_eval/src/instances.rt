@@ -7,8 +7,8 @@ ghost use Rattle.scad_value.specs.Values.{truth_of};
 ghost use Rattle.scad_func.specs.Meaning.{Gives, then_with, value_at_next_depth};
 ghost use Rattle.scad_func.specs.View.{table_in};
 ghost use Rattle.scad_meaning.specs.Meaning.{expression_context, body_design, no_design, each_member, core_of_instance, core_design, instance_design};
-ghost use Rattle.scad_instances.specs.Positions.{term_of_numbered};
-ghost use Rattle.scad_instances.specs.Seen.{instance_design_of, member_designs_of};
+ghost use Rattle.scad_instance_rules.specs.Positions.{term_of_numbered};
+ghost use Rattle.scad_instance_rules.specs.Seen.{instance_design_of, member_designs_of};
 ghost use Rattle.scad_eval.specs.Keeping.{EvaluatesAt};
 ghost use Rattle.scad_eval.specs.Within.{body_seen, IsInBlock, IsInstanceAt, IsBodyAt};
 
@@ -16,7 +16,7 @@ use crate::evaluator::InstanceEvaluator;
 use csg_tree::Op;
 use scad_ast::{Core, Expr};
 use scad_func::evaluate;
-use scad_instances::{
+use scad_instance_rules::{
     InstanceResult, MemberResults, NumberedBody, NumberedInstance, Position, as_root,
     has_root_modifier, is_child, no_members, nothing_made, with_made,
 };

@@ -5,13 +5,15 @@ ghost use Rattle.scad_modules.specs.View.{solid_call_of, flat_call_of};
 ghost use Rattle.scad_design.specs.View.{plain_of};
 ghost use Rattle.scad_meaning.specs.Verdicts.{solid_mesh, extrusion_mesh};
 ghost use Rattle.scad_meaning.specs.Meaning.{unless_refused, leaf_design, flat_design, hull_design};
-ghost use Rattle.scad_instances.specs.Seen.{instance_design_of, IsStopAt};
+ghost use Rattle.scad_instance_rules.specs.Seen.{instance_design_of, IsStopAt};
 ghost use Rattle.scad_eval.specs.Keeping.{IsCheckedExtrusion, IsPosition, Stays, EvaluatesKeeping, EvaluatesAnywhere};
 
 use crate::evaluator::InstanceEvaluator;
 use primitives::{Shape, ShapeStop, extrude};
 use scad_design::{Design, LeafShape};
-use scad_instances::{InstanceResult, Position, design_hull, flat_shape, is_nothing, solid_shape};
+use scad_instance_rules::{
+    InstanceResult, Position, design_hull, flat_shape, is_nothing, solid_shape,
+};
 use scad_meaning::Extrusion;
 use scad_modules::{FlatShape, SolidShape};
 use text_place::{FaultKind, Place, Stop};

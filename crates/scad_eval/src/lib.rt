@@ -1,7 +1,7 @@
 //! The evaluator of programs: the tree that a program means, or its first fault.
 //!
-//! What it promises is `IsMeaning` of `scad_meaning`. Each step is told by `Keeping.EvaluatesKeeping`: the equation of the
-//! meaning that it meets, and what stays as it was.
+//! It promises `IsMeaning` of `scad_meaning`. `Keeping.EvaluatesKeeping` describes each step: the equation of the meaning that
+//! the step meets, and what the step leaves unchanged.
 #![tactic(auto)]
 
 mod assigning;

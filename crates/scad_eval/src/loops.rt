@@ -4,7 +4,7 @@ ghost use Rattle.std.specs.Prelude.{[], map};
 ghost use Rattle.csg_tree.specs.declared.op.Op.TheVariants.{Union};
 ghost use Rattle.scad_ast.specs.StatementView.{binder_of, binders_of};
 ghost use Rattle.scad_meaning.specs.Meaning.{loop_design, each_iteration};
-ghost use Rattle.scad_instances.specs.Seen.{instance_design_of, member_designs_of};
+ghost use Rattle.scad_instance_rules.specs.Seen.{instance_design_of, member_designs_of};
 ghost use Rattle.scad_eval.specs.Keeping.{EvaluatesAt};
 ghost use Rattle.scad_eval.specs.Variables.{GoesInside, TakesStep};
 ghost use Rattle.scad_eval.specs.Within.{body_seen, IsBodyAt};
@@ -13,7 +13,7 @@ use crate::evaluator::InstanceEvaluator;
 use crate::open_variable::{Inside, OpenVariable};
 use csg_tree::Op;
 use scad_ast::{Binder, Binders};
-use scad_instances::{
+use scad_instance_rules::{
     InstanceResult, MemberResults, NumberedBody, Position, join_members, no_members, with_made,
 };
 use text_place::{Place, Stop};

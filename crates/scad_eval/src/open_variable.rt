@@ -6,7 +6,7 @@ ghost use Rattle.scad_eval.specs.Variables.{OpensVariable, EntersVariable, EndsS
 
 use scad_ast::Binder;
 use scad_func::{Evaluation, evaluate};
-use scad_instances::{Items, MemberResults, no_members, with_members};
+use scad_instance_rules::{Items, MemberResults, no_members, with_members};
 use scad_value::BoundedValue;
 use text_place::{FaultKind, NoMemory, Place, Stop};
 

@@ -10,7 +10,7 @@ ghost use Rattle.scad_func.specs.Definitions.{IsWholeTable};
 ghost use Rattle.scad_design.specs.View.{plain_of};
 ghost use Rattle.scad_meaning.specs.Meaning.{root_or_union};
 ghost use Rattle.scad_meaning.specs.Sources.{IsMeaning, a_tree, IsMeaningStop, HoldsFault};
-ghost use Rattle.scad_instances.specs.Listing.{AreInstancesOf};
+ghost use Rattle.scad_instance_rules.specs.Listing.{AreInstancesOf};
 ghost use Rattle.scad_eval.specs.Programs.{MeetsDesign, IsFirstTable};
 
 use crate::evaluator::InstanceEvaluator;
@@ -19,7 +19,7 @@ use plane_predicate::Unit;
 use scad_ast::Program;
 use scad_design::{Design, balanced_join, place};
 use scad_func::{Evaluation, Source};
-use scad_instances::{InstanceTable, MemberResults, Position};
+use scad_instance_rules::{InstanceTable, MemberResults, Position};
 use scad_meaning::programs_mean_proper_trees;
 use scad_scope::Scopes;
 use std::alloc::Global;
@@ -33,7 +33,7 @@ pub fn evaluate(alloc: Global, program: &Program, unit: Unit) -> Result<CsgTree,
     ensures place { IfErr result (HoldsFault (program_of program.now)) }
     ensures proper { IfOk result (λ tree. IsProper (plain_tree_of tree)) }
 {
-    // Brings a law alone: the tree that a program means is proper.
+    // Called for its law; does nothing when it runs: the tree that a program means is proper.
     programs_mean_proper_trees();
     let source = Source::of(alloc, program)?;
     let instances = InstanceTable::of(alloc, &source)?;

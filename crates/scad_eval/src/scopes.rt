@@ -4,14 +4,14 @@ ghost use Rattle.std.specs.Prelude.{OnOk};
 ghost use Rattle.scad_func.specs.View.{table_in};
 ghost use Rattle.scad_func.specs.Definitions.{statements_at};
 ghost use Rattle.scad_meaning.specs.Meaning.{body_design, block_members};
-ghost use Rattle.scad_instances.specs.Seen.{instance_design_of, member_designs_of};
+ghost use Rattle.scad_instance_rules.specs.Seen.{instance_design_of, member_designs_of};
 ghost use Rattle.scad_eval.specs.Keeping.{IsPosition, Binds, EvaluatesKeeping, EvaluatesAt};
-ghost use Rattle.scad_instances.specs.Choosing.{chosen_seen, IsSafeChosen};
+ghost use Rattle.scad_instance_rules.specs.Choosing.{chosen_seen, IsSafeChosen};
 ghost use Rattle.scad_eval.specs.Within.{body_seen, IsBodyAt};
 
 use crate::evaluator::InstanceEvaluator;
 use csg_tree::Op;
-use scad_instances::{
+use scad_instance_rules::{
     InstanceResult, MemberResults, NumberedBody, Position, chosen_instances, join_members,
 };
 use scad_modules::Chosen;

@@ -13,7 +13,7 @@ use Rattle.scad_expressions.specs.declared.class.Level.{Level}
 use Rattle.scad_expressions.specs.Climbing.{climb_read}
 use Rattle.scad_expressions.specs.TokenClasses.{classes_of_levels, binary_signs, unary_signs, suffix_signs, literals, atoms, continuations, operators_at, levels_below}
 use Rattle.scad_expressions.specs.Views.{has_lone_atom, atom_of}
-use Rattle.scad_expressions.proofs.Given.{both_hold}
+use Rattle.scad_expressions.proofs.lemmas.Given.{both_hold}
 use Rattle.scad_expressions.proofs.Climbs.{chain_climbs, climbs_none, many_none, starts_apart, none_at, none_below}
 
 module _ (us : List Token) (e : next_is (has_class_in continuations) us ≡ false) where

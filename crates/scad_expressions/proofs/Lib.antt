@@ -1,9 +1,4 @@
 mod Atoms
 mod Climbs
-pub mod Depths
-pub mod Given
-pub mod Lengths
+pub mod lemmas
 mod Levels
-pub mod Loops
-pub mod Stops
-pub mod Trees

@@ -1,3 +1,5 @@
+//! The classes of tokens that decide how an expression goes on, and the levels of operators.
+
 ghost use Rattle.std.specs.Prelude.{◌≡◌, cond};
 ghost use Rattle.scad_grammar.specs.Classes.{token_class, is_class_among, symbol_class, reserved_class, numeral_class, name_class, text_class, child_count_class, special_class};
 ghost use Rattle.scad_grammar.specs.Faults.{left_out_classes};

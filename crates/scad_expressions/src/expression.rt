@@ -1,3 +1,5 @@
+//! Parses expressions by recursive descent, one function for each form of the grammar.
+
 ghost use Rattle.std.specs.Prelude.{◌≡◌, ◌≤◌, ◌∷◌, [], true, Some, IfOk, length, map};
 ghost use Rattle.scad_ast.specs.Terms.{ListTerm, terms_from};
 ghost use Rattle.scad_ast.specs.ExprView.{term_of, terms_of, link_of, suffix_of, arg_of, args_of};
@@ -17,13 +19,13 @@ use crate::{
     is_before, is_comma_before, list_of, lone_atom, take, take_first, too_deep, unary_operator,
     with,
 };
+use plain_text::CompactBytes;
 use scad_ast::{
     Arg, Args, Call, Chain, Choice, Expr, Exprs, Link, Links, Postfix, Range, SteppedRange, Suffix,
     Suffixes,
 };
 use scad_lexer::{Reserved, Symbol, Token, TokenKind};
 use std::alloc::Global;
-use text_place::CompactBytes;
 
 // What is rare stands in functions that are not inlined: the locals of a function are cleared at each call, also
 // those of forms that are not met. What was read is handed on as it is where nothing follows it, rather than taken

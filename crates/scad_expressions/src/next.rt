@@ -1,3 +1,5 @@
+//! The parser's result: what was read with the tokens behind it, or why it stopped.
+
 ghost use Rattle.std.specs.Prelude.{◌≡◌, ◌<◌, ◌≤◌, ◌∷◌, [], true, false, Ok, Err, Some, None, IfOk, IfErr, IfSome, IfNone, length};
 ghost use Rattle.scad_grammar.specs.Classes.{token_class, bytes_of, symbol_class, has_class_in, has_class, has_class_outside};
 ghost use Rattle.scad_grammar.specs.Classes.{name_class};
@@ -9,13 +11,13 @@ ghost use Rattle.scad_expressions.specs.declared.class.TokenClass.TheVariants.{L
 ghost use Rattle.scad_expressions.specs.Views.{GivesRead, IsStop, IsClosedRead, IsBoxed, nested_fault, fault_at, item_stands, past_comma, value_assigned, has_lone_atom};
 
 use crate::class::TokenClass;
+use plain_text::CompactBytes;
 use scad_ast::{BinaryOp, Modifier, UnaryOp};
 use scad_grammar::SyntaxFault;
 use scad_lexer::{Symbol, Token, TokenKind};
 use std::alloc::{AllocError, AllocFailed, Global};
-use text_place::CompactBytes;
 
-/// Why nothing was read: a fault and the tokens from where it stands, or want of memory.
+/// Why nothing was read: a fault and the tokens from where it stands, or that memory ran out.
 #[derive(Drop)]
 pub enum Stopped<'a> {
     Fault(SyntaxFault, &'a [Token]),
@@ -83,7 +85,7 @@ pub fn boxed<'a, T: Drop>(alloc: Global, read: Parsed<'a, T>) -> Parsed<'a, Box<
     Ok((Box::new(alloc, value)?, rest))
 }
 
-/// A list of one item, with room for so many.
+/// A list of one item, with room for the given number.
 #[inline(always)]
 pub fn list_of<T: Drop>(alloc: Global, first: T, room: usize) -> Result<Vec<T>, AllocError>
     ensures { IfOk result (λ list. list.items ≡ first ∷ []) }

@@ -16,13 +16,13 @@ use Rattle.scad_func.specs.Steps.{argument_of}
 use Rattle.scad_func.specs.declared.values.BoundedValues.{BoundedValues}
 use Rattle.scad_func.specs.View.{MeetsOutcome, IsNoMemory, IsOneMore, values_seen, arguments_of}
 use Rattle.scad_value.specs.AnswerView.{IsUnboundedAnswer}
-use Rattle.scad_func.proofs.GivenSeen.{IsHeld}
+use Rattle.scad_func.proofs.lemmas.GivenSeen.{IsHeld}
 use Rattle.scad_definitions.specs.declared.parameters.CallArguments.{CallArguments}
 use Rattle.scad_func.proofs.Calls.{in_front}
 use Rattle.scad_func.specs.declared.evaluation.Evaluation.{Evaluation}
 use Rattle.scad_func.specs.Evaluations.{KeepsEvaluation, EvaluatesTo, expression_context_here}
-use Rattle.scad_func.proofs.Kept.{moved}
-use Rattle.scad_func.proofs.Outcomes.{meets_along, front_more, and_arg}
+use Rattle.scad_func.proofs.lemmas.Kept.{moved}
+use Rattle.scad_func.proofs.lemmas.Outcomes.{meets_along, front_more, and_arg}
 use Rattle.scad_func.proofs.Steps.{argument_more, argument_fault}
 
 abbrev pub and_then : Outcome Val → (ℕ → Outcome Vals) → Outcome Vals
@@ -100,7 +100,7 @@ on_ok_at P r x is h = subst (λ y. OnOk y P) is h
 pub on_err_at : {A E : Type 0} (P : Type 0) (r : Result A E) (e : E) → r ≡ Err e → OnErr r P → P
 on_err_at P r e is h = subst (λ y. OnErr y P) is h
 
--- of want of memory nothing is told
+-- nothing is said about running out of memory
 pub none_told : {A B : Type 0} (see : A → B) (stop : Stop) (n : ℕ) (out : Outcome B) → IsNoMemory stop → MeetsOutcome see (Err stop) n out
 none_told see (Fault fault) n out h = absurd h
 none_told see NoMemory n out h = tt

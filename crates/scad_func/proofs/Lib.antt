@@ -1,4 +1,4 @@
-pub mod Kept
+pub mod lemmas
 pub mod Holding
 mod Rows
 pub mod Environments
@@ -9,11 +9,8 @@ pub mod Chains
 pub mod Standing
 pub mod Bodies
 pub mod Calls
-pub mod Counting
-pub mod Outcomes
 pub mod Steps
 pub mod SmallNumbers
 pub mod Forms
 mod FilledAlike
 mod Valued
-pub mod GivenSeen

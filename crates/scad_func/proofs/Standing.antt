@@ -46,7 +46,7 @@ modules_joined (a_block s ∷ xs) ys = modules_joined xs ys
 modules_joined (a_function f ∷ xs) ys = modules_joined xs ys
 modules_joined (a_module m ∷ xs) ys = ap (λ l. m ∷ l) (modules_joined xs ys)
 
--- a list in which others stand behind so many and before the rest
+-- a list in which others stand behind the given number and before the rest
 record Stands {A : Type 0} (all : List A) (n : ℕ) (xs : List A) : Type 0 where
   before : List A
   block_end : List A

@@ -22,7 +22,7 @@ expression_context_in evaluation scope = record {
   bindings = bindings_of evaluation.scopes.now;
 }
 
--- the scope in which is evaluated, with all that it stands in
+-- the current scope, with all that it stands in
 abbrev pub numbered_env_here : Evaluation → NumberedEnv
 numbered_env_here evaluation = env_of (rows_of evaluation.scopes.now) evaluation.scope
 
@@ -31,7 +31,7 @@ abbrev pub env_here : Evaluation → Env
 env_here evaluation =
     env_seen evaluation.source.now (rows_of evaluation.scopes.now) evaluation.scope
 
--- where an expression of the scope in which is evaluated stands
+-- where an expression of the current scope stands
 abbrev pub expression_context_here : Evaluation → ExpressionContext
 expression_context_here evaluation = expression_context_in evaluation evaluation.scope
 
@@ -60,7 +60,7 @@ pub record EvaluatesTo {A B : Type 0} (see : A → B) (old new : Evaluation) (re
   pub value : MeetsOutcome see result new.turns (meaning (expression_context_here old) old.turns)
   pub kept : KeepsEvaluation old new
 
--- the source, the scope in which is evaluated, the calls and the depth are as before; the scopes, the
+-- the source, the current scope, the calls and the depth are as before; the scopes, the
 -- dynamic bindings and the turns may change
 pub record KeepsAllButScopes (old new : Evaluation) : Type 0 where
   pub source : new.source.now ≡ old.source.now
@@ -104,7 +104,7 @@ pub record OneScopeMore (old new : Evaluation) (before : ℕ) : Type 0 where
   pub calls : new.calls ≡ old.calls
   pub depth : new.depth ≡ old.depth
 
--- more special names, in front of so many: all else but the turns is as before
+-- more special names, in front of the given number: all else but the turns is as before
 pub record MoreBindings (old new : Evaluation) (count : ℕ) : Type 0 where
   pub source : new.source.now ≡ old.source.now
   pub lent : new.scopes.ghost_name ≡ old.scopes.ghost_name

@@ -21,7 +21,7 @@ pub record IsScopeOf (table : BlockTable) (rows : List ScopeRow) (scope : ℕ) :
   pub numbered : IsTrue (functions_below (length table.functions) rows)
   pub modules : IsTrue (modules_below (length table.modules) rows)
 
--- The value of an expression in a scope as it is defined, with so many calls and evaluations left as a meter says,
+-- The value of an expression in a scope as it is defined, with the given number of calls and evaluations left as a meter says,
 -- behind its turns, or the first fault, unless memory ran out; each value is bounded.
 pub record GivesValue (scopes : Scopes) (before after : Meter) (env : Env) (expression : Term)
     (result : Result Value Stop) : Type 0 where

@@ -1,6 +1,6 @@
 -- What the steps of an evaluation do to it: what begins and ends, is entered and left, and is given a value.
 use Rattle.std.specs.Prelude.{◌≡◌, ◌<◌, ◌≤◌, ◌+◌, ◌++◌, ◌⊎◌, ℕ, List, length, take, Option, Result, OnOk, OnErr, IfOk, IfErr}
-use Rattle.text_place.specs.declared.fault.Place.{Place}
+use Rattle.plain_text.specs.declared.place.Place.{Place}
 use Rattle.text_place.specs.declared.fault.Stop.{Stop}
 use Rattle.text_place.specs.declared.fault.FaultKind.TheVariants.{TooDeep, TooManyTurns}
 use Rattle.scad_ast.specs.declared.statement.Params.{Params}
@@ -81,7 +81,7 @@ pub record LeavesScope (old new : Evaluation) (before : ℕ) : Type 0 where
   pub rows : rows_of new.scopes.now ≡ take old.scope (rows_of old.scopes.now)
   pub turns : new.turns ≡ old.turns
 
--- What takes special names from the dynamic bindings, to so many: all else is as it is, and all but the turns is as
+-- What takes special names from the dynamic bindings, to the given number: all else is as it is, and all but the turns is as
 -- it was before they were put there.
 pub record PopsBindings (old new : Evaluation) (to : ℕ) : Type 0 where
   pub back : (first : Evaluation) → MoreBindings first old to → KeepsEvaluation first new

@@ -1,3 +1,5 @@
+//! Calls of built-in functions, and an argument's value.
+
 ghost use Rattle.std.specs.Prelude.{◌≡◌, ◌<◌, ℕ, IfOk, IfErr, Err, if◌then◌else◌};
 ghost use Rattle.text_place.specs.declared.fault.FaultKind.TheVariants.{UnknownFunction, NotInProfile};
 ghost use Rattle.scad_ast.specs.ExprView.{term_of, arg_of, args_of};

@@ -1,3 +1,5 @@
+//! Finds the function or module that a name stands for, from the current scope outward.
+
 ghost use Rattle.std.specs.Prelude.{◌≡◌, ◌<◌, IfSome};
 ghost use Rattle.std.specs.List.{Contains};
 ghost use Rattle.scad_ast.specs.StatementView.{params_of, body_of};

@@ -1,3 +1,5 @@
+//! Binds special names for the time of a call.
+
 ghost use Rattle.std.specs.Prelude.{IfErr};
 ghost use Rattle.scad_func.specs.View.{IsNoMemory, bindings_in};
 ghost use Rattle.scad_func.specs.Transitions.{PutsBindings};

@@ -1,3 +1,5 @@
+//! The state of an evaluation of expressions.
+
 ghost use Rattle.std.specs.Prelude.{◌<◌, ◌≤◌, length, IsTrue};
 ghost use Rattle.scad_scope.specs.Numbered.{modules_below};
 ghost use Rattle.scad_scope.specs.Table.{rows_of};
@@ -16,7 +18,7 @@ pub struct Evaluation<'a, 's> {
     pub alloc: Global,
     pub source: &'a Source<'a>,
     pub scopes: &'s mut Scopes,
-    /// The scope in which is evaluated.
+    /// The current scope.
     pub scope: u32,
     /// Calls in one another.
     pub calls: u32,

@@ -1,3 +1,5 @@
+//! Evaluates expressions, one function for each form.
+
 ghost use Rattle.std.specs.Prelude.{◌≡◌, ◌≤◌, IfOk, Ok, None, length, true, false, if◌then◌else◌};
 ghost use Rattle.scad_ast.specs.Terms.{terms_from, args_from, suffixes_from, links_from};
 ghost use Rattle.scad_ast.specs.ExprView.{term_of, terms_of, args_of, suffix_of, suffixes_of, link_of, links_of};
@@ -28,12 +30,12 @@ use scad_value::{
 use std::mem;
 use text_place::{FaultKind, Place, Stop};
 
-/// The value of an expression in the scope in which is evaluated, whose elements are counted where it is a list.
+/// The value of an expression in the current scope, whose elements are counted where it is a list.
 ///
 /// At 512 evaluations in one another, each through many forms, it takes less than 4 MiB of the stack: 2.0 MiB were
 /// measured. No contract speaks of the stack.
 #[cycle(value)]
-#[tactic(auto, using(crate::proofs::Kept::keeps_trans))]
+#[tactic(auto, using(crate::proofs::lemmas::Kept::keeps_trans))]
 pub fn evaluate(evaluation: &mut Evaluation<'_, '_>, expr: &Expr) -> Result<BoundedValue, Stop>
     ensures { EvaluatesTo bounded_val evaluation.old evaluation.new result (λ here.
         value_at_next_depth here true (term_of expr.now)) }
@@ -95,7 +97,7 @@ fn operand(evaluation: &mut Evaluation<'_, '_>, expr: &Expr) -> Result<BoundedVa
 // The list of expressions.
 #[cycle(value)]
 #[inline(never)]
-#[tactic(auto, using(crate::proofs::Kept::keeps_trans))]
+#[tactic(auto, using(crate::proofs::lemmas::Kept::keeps_trans))]
 fn list(
     evaluation: &mut Evaluation<'_, '_>,
     items: &Exprs,
@@ -112,7 +114,7 @@ fn list(
 // An operator and its operand, which is one evaluation deeper.
 #[cycle(value)]
 #[inline(never)]
-#[tactic(auto, using(crate::proofs::Kept::keeps_trans))]
+#[tactic(auto, using(crate::proofs::lemmas::Kept::keeps_trans))]
 fn unary(
     evaluation: &mut Evaluation<'_, '_>,
     op: UnaryOp,
@@ -130,7 +132,7 @@ fn unary(
 // The values of expressions, from the first on.
 #[cycle(value)]
 #[inline(never)]
-#[tactic(auto, using(crate::proofs::Kept::keeps_trans))]
+#[tactic(auto, using(crate::proofs::lemmas::Kept::keeps_trans))]
 fn each_value(evaluation: &mut Evaluation<'_, '_>, exprs: &Exprs) -> Result<BoundedValues, Stop>
     ensures { EvaluatesTo values_seen evaluation.old evaluation.new result (λ here.
         each_value here (terms_from (terms_of exprs.now))) }
@@ -146,7 +148,7 @@ fn each_value(evaluation: &mut Evaluation<'_, '_>, exprs: &Exprs) -> Result<Boun
 // The range of two expressions.
 #[cycle(value)]
 #[inline(never)]
-#[tactic(auto, using(crate::proofs::Kept::keeps_trans))]
+#[tactic(auto, using(crate::proofs::lemmas::Kept::keeps_trans))]
 fn range(
     evaluation: &mut Evaluation<'_, '_>,
     from: &Expr,
@@ -167,7 +169,7 @@ fn range(
 // The range of three expressions.
 #[cycle(value)]
 #[inline(never)]
-#[tactic(auto, using(crate::proofs::Kept::keeps_trans))]
+#[tactic(auto, using(crate::proofs::lemmas::Kept::keeps_trans))]
 fn stepped_range(
     evaluation: &mut Evaluation<'_, '_>,
     from: &Expr,
@@ -192,7 +194,7 @@ fn stepped_range(
 // The indexes and members behind an expression. A variable is lent where it stands.
 #[cycle(value)]
 #[inline(never)]
-#[tactic(auto, using(crate::proofs::Kept::keeps_trans))]
+#[tactic(auto, using(crate::proofs::lemmas::Kept::keeps_trans))]
 fn postfix(
     evaluation: &mut Evaluation<'_, '_>,
     of: &Expr,
@@ -212,7 +214,7 @@ fn postfix(
 
 // The indexes and members behind what is indexed.
 #[cycle(value)]
-#[tactic(auto, using(crate::proofs::Kept::keeps_trans))]
+#[tactic(auto, using(crate::proofs::lemmas::Kept::keeps_trans))]
 fn suffixes(
     evaluation: &mut Evaluation<'_, '_>,
     of: Indexed<'_>,
@@ -257,7 +259,7 @@ fn suffix(
 // Operators of one level and what stands between them, from the left.
 #[cycle(value)]
 #[inline(never)]
-#[tactic(auto, using(crate::proofs::Kept::keeps_trans))]
+#[tactic(auto, using(crate::proofs::lemmas::Kept::keeps_trans))]
 fn operators(
     evaluation: &mut Evaluation<'_, '_>,
     first: &Expr,
@@ -273,7 +275,7 @@ fn operators(
 
 // Operators of one level behind a value, from the left.
 #[cycle(value)]
-#[tactic(auto, using(crate::proofs::Kept::keeps_trans))]
+#[tactic(auto, using(crate::proofs::lemmas::Kept::keeps_trans))]
 fn links(
     evaluation: &mut Evaluation<'_, '_>,
     left: BoundedValue,
@@ -315,7 +317,7 @@ fn link(
 // One of two expressions, by a test.
 #[cycle(value)]
 #[inline(never)]
-#[tactic(auto, using(crate::proofs::Kept::keeps_trans))]
+#[tactic(auto, using(crate::proofs::lemmas::Kept::keeps_trans))]
 fn choice(
     evaluation: &mut Evaluation<'_, '_>,
     test: &Expr,
@@ -369,7 +371,7 @@ fn call(
 /// name, and then evaluated.
 #[cycle(value)]
 #[inline(never)]
-#[tactic(auto, using(crate::proofs::Kept::keeps_trans))]
+#[tactic(auto, using(crate::proofs::lemmas::Kept::keeps_trans))]
 pub fn arguments<'b>(
     evaluation: &mut Evaluation<'_, '_>,
     names: Names<'_>,
@@ -479,7 +481,7 @@ fn in_new_scope(
 /// The values of parameters, from the first on.
 #[cycle(value)]
 #[inline(never)]
-#[tactic(auto, using(crate::proofs::Kept::keeps_trans))]
+#[tactic(auto, using(crate::proofs::lemmas::Kept::keeps_trans))]
 pub(crate) fn parameters(
     evaluation: &mut Evaluation<'_, '_>,
     params: &Params,
@@ -526,7 +528,7 @@ fn parameter(
 // The values of all arguments, from the first on.
 #[cycle(value)]
 #[inline(never)]
-#[tactic(auto, using(crate::proofs::Kept::keeps_trans))]
+#[tactic(auto, using(crate::proofs::lemmas::Kept::keeps_trans))]
 fn each_positional(evaluation: &mut Evaluation<'_, '_>, args: &Args) -> Result<BoundedValues, Stop>
     ensures { EvaluatesTo values_seen evaluation.old evaluation.new result (λ here.
         each_value here (all_values (args_from (args_of args.now)))) }

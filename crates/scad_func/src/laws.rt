@@ -1,3 +1,5 @@
+//! Laws of scopes and arguments, for the crates that evaluate instances.
+
 ghost use Rattle.std.specs.Prelude.{◌≡◌, ℕ, List, length};
 ghost use Rattle.scad_ast.specs.Terms.{StatementTerm, ArgTerm, args_from};
 ghost use Rattle.scad_value.specs.Values.{Vals};

@@ -1,8 +1,7 @@
-//! The evaluation of expressions in a scope, with dynamic bindings, where calls, evaluations and turns are counted.
+//! The evaluation of expressions in a scope, with dynamic bindings and with counts of calls, evaluations and turns.
 //!
-//! Read `Meaning.value_within` first: it says which value an expression has, or which fault comes first. What the
-//! code does is told by `Evaluations.EvaluatesTo`: the value or the fault of that meaning, and what stays as it
-//! was.
+//! Read `Meaning.value_within` first: it defines the value of an expression, or its first fault. `Evaluations.EvaluatesTo`
+//! describes the code: it returns that value or that fault, and the definition says what stays unchanged.
 #![tactic(auto)]
 
 mod answer;

@@ -1,3 +1,5 @@
+//! The limits of depth and of turns, and the calls that count them.
+
 ghost use Rattle.std.specs.Prelude.{◌≡◌, ◌+◌, ◌<◌, IfErr, OnOk};
 ghost use Rattle.text_place.specs.declared.fault.FaultKind.TheVariants.{TooDeep, TooManyTurns};
 ghost use Rattle.scad_definitions.specs.ArgumentsView.{IsFaultAt};
@@ -54,8 +56,8 @@ impl Evaluation<'_, '_> {
         Ok(())
     }
 
-    /// One call deeper, and one turn more. TooDeep at its place where it is the 65th in one another, and else TooManyTurns where
-    /// the turn is the 100,001st.
+    /// One call deeper, and one turn more. TooDeep at its place where it is the 65th in one another, and else TooManyTurns
+    /// where the turn is the 100,001st.
     pub fn begin_counted_call(&mut self, place: Place) -> Result<(), Stop>
         ensures { BeginsCountedCall self.old self.new result place }
     {

@@ -1,3 +1,5 @@
+//! Values of variables and special names, and operators whose right side is a variable.
+
 ghost use Rattle.std.specs.Prelude.{◌≡◌, ℕ, IfOk, IfErr, MatchResult, Some, None, codes};
 ghost use Rattle.scad_value.specs.Values.{NumberVal};
 ghost use Rattle.scad_value.specs.Operators.{binary_of, index_of};

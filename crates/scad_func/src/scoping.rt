@@ -1,3 +1,5 @@
+//! Enters and leaves scopes, and lists a block's assignments.
+
 ghost use Rattle.std.specs.Prelude.{◌≡◌, ◌<◌, ◌≤◌, ◌+◌, [], ◌∷◌, length, map, IfOk, IfErr, IfSome, OnErr};
 ghost use Rattle.scad_ast.specs.StatementView.{params_of};
 ghost use Rattle.scad_value.specs.BoundedView.{bounded_val};
@@ -36,7 +38,7 @@ impl<'a> Evaluation<'a, '_> {
         &[]
     }
 
-    /// Enters a new scope of a block inside an outer scope, and answers the scope in which was evaluated before.
+    /// Enters a new scope of a block inside an outer scope, and answers the scope that was current before.
     /// `NoMemory` leaves all as it was.
     pub fn enter_body(&mut self, outer: u32, block: u32) -> Result<u32, NoMemory>
         requires { outer < scopes_there self.old }
@@ -62,7 +64,7 @@ impl<'a> Evaluation<'a, '_> {
     }
 
     /// Enters a new scope of a module's body inside the scope of the definition, as the scope of a call with its
-    /// children's block, and answers the scope in which was evaluated before, the caller's. `NoMemory` leaves all
+    /// children's block, and answers the scope that was current before, the caller's. `NoMemory` leaves all
     /// as it was.
     pub fn enter_activation(
         &mut self,
@@ -85,7 +87,7 @@ impl<'a> Evaluation<'a, '_> {
         Ok(caller)
     }
 
-    /// Leaves the scope in which is evaluated, which was entered and is the newest, to the one in which was evaluated
+    /// Leaves the current scope, which was entered and is the newest, to the one that was current
     /// before.
     pub fn leave(&mut self, before: u32)
         requires { before < self.old.scope }
@@ -96,7 +98,7 @@ impl<'a> Evaluation<'a, '_> {
         self.scopes.leave(newest);
     }
 
-    /// Gives a name a value in the scope in which is evaluated, which is the newest. `NoMemory` leaves all as it was.
+    /// Gives a name a value in the current scope, which is the newest. `NoMemory` leaves all as it was.
     #[tactic(auto, using(crate::proofs::Growth::front_kept, crate::proofs::Growth::bound_length))]
     pub fn bind(&mut self, name: &[u8], value: BoundedValue) -> Result<(), NoMemory>
         requires { self.old.scope + 1 ≡ scopes_there self.old }
@@ -107,7 +109,7 @@ impl<'a> Evaluation<'a, '_> {
         self.scopes.bind(self.alloc, self.scope, name, value.value)
     }
 
-    /// Gives parameters their values in the scope in which is evaluated, which is the newest. `NoMemory` leaves some of
+    /// Gives parameters their values in the current scope, which is the newest. `NoMemory` leaves some of
     /// them.
     pub fn bind_parameters(
         &mut self,
@@ -123,7 +125,8 @@ impl<'a> Evaluation<'a, '_> {
         bind_all(self.alloc, self.scopes, self.scope, params, values)
     }
 
-    /// Puts special arguments among the dynamic bindings, and answers how many there were before. `NoMemory` leaves all as it was.
+    /// Puts special arguments among the dynamic bindings, and answers how many there were before. `NoMemory` leaves all as it
+    /// was.
     pub fn push_bindings(
         &mut self,
         dynamic: Vec<SpecialArgument<'_, BoundedValue>>,

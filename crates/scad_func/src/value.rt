@@ -1,3 +1,5 @@
+//! The public calls that give an expression's value.
+
 ghost use Rattle.scad_ast.specs.ExprView.{term_of};
 ghost use Rattle.scad_ast.specs.ProgramView.{program_of};
 ghost use Rattle.scad_scope.specs.Names.{env_of};

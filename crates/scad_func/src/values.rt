@@ -1,3 +1,5 @@
+//! A list of values that keep the limits of values.
+
 ghost use Rattle.std.specs.Prelude.{◌≡◌, [], IsTrue};
 ghost use Rattle.scad_value.specs.View.{vals_in};
 ghost use Rattle.scad_builtin.specs.Builtins.{are_bounded};

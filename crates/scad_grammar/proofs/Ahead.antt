@@ -2,7 +2,7 @@
 use Rattle.std.proofs.Common.{◌≡◌, List, [], ◌∷◌, ◌++◌, Bool, true, false, cond, Ok, Err, ◌⊎◌, inl, inr, refl, sym, ap, ◌∙◌, subst, ◌&&◌}
 use Rattle.scad_grammar.specs.declared.SyntaxFault.{SyntaxFault}
 use Rattle.scad_grammar.specs.Reading.{Read, Reader, then_read, next_is, two_ahead}
-use Rattle.scad_grammar.proofs.Readers.{SameHead, Told, IsReader, seen}
+use Rattle.scad_grammar.proofs.lemmas.Readers.{SameHead, Told, IsReader, seen}
 
 abbrev pub two : {T : Type 0} → (T → Bool) → (T → Bool) → List T → Bool
 two a b [] = false

@@ -12,13 +12,13 @@ use Rattle.scad_grammar.specs.Reading.{Read, then_read, next_is, image_read, emp
 use Rattle.scad_grammar.specs.Faults.{TokenReader, token_read, fault_of, left_out_classes}
 use Rattle.scad_grammar.specs.Reads.{in_parentheses, args_read}
 use Rattle.scad_grammar.specs.StatementReads.{modifier_signs, loop_words, firsts_of_core, firsts_of_instance, param_read, binder_read, params_read, binders_read, if_read, call_read, modifiers_read, instance_read}
-use Rattle.scad_grammar.proofs.Readers.{IsReader, Opens, both_reads, choice_reads, mapped_reads, many_reads, nothing_reads, both_opens, either_opens, mapped_opens, one_opens, never_starts}
+use Rattle.scad_grammar.proofs.lemmas.Readers.{IsReader, Opens, both_reads, choice_reads, mapped_reads, many_reads, nothing_reads, both_opens, either_opens, mapped_opens, one_opens, never_starts}
 use Rattle.scad_grammar.proofs.Greedy.{Stops, both_if_reads, both_stops, choice_stops, or_first, maybe_ends, maybe_reads, maybe_stops}
 use Rattle.scad_grammar.proofs.SeparatedList.{separated_reads}
 use Rattle.scad_grammar.proofs.Tests.{OneReads, one_at, then, apart, next_apart, next_within, next_less, no_close, close_ends}
 use Rattle.scad_grammar.proofs.Operands.{token, name_one}
 use Rattle.scad_grammar.proofs.Primary.{Some_of, in_parentheses_reads}
-use Rattle.scad_grammar.proofs.Expressions.{expression_more, arg_more, two_not, two_name}
+use Rattle.scad_grammar.proofs.lemmas.Expressions.{expression_more, arg_more, two_not, two_name}
 use Rattle.scad_grammar.proofs.Ahead.{two, rest_of}
 use Rattle.scad_grammar.specs.declared.SyntaxFault.{SyntaxFault}
 

@@ -6,8 +6,8 @@ use Rattle.scad_grammar.specs.Grammar.{WholeProgram, ProgramWithGaps}
 use Rattle.scad_grammar.specs.Depths.{HasDepths, AllBelow, IsProgramPrefixBelow, program_depths}
 use Rattle.scad_grammar.specs.FirstFault.{IsShallowProgramPrefix}
 use Rattle.scad_grammar.proofs.Fronts.{no_gap_front, front_shown, filled_shown, filled_all}
-use Rattle.scad_grammar.proofs.Programs.{one_program}
-use Rattle.scad_grammar.proofs.Wider.{is_outline}
+use Rattle.scad_grammar.proofs.lemmas.Programs.{one_program}
+use Rattle.scad_grammar.proofs.lemmas.Wider.{is_outline}
 use Rattle.scad_grammar.proofs.Shown.{program_shows}
 use Rattle.scad_grammar.proofs.Filled.{program_fills}
 

@@ -1,6 +1,6 @@
 -- Small programs, outlines and faults of the grammar, by hand.
 use Rattle.std.proofs.Common.{codes, ℕ, zero, suc, List, [], ◌∷◌, ◌++◌, None, inl, inr, refl}
-use Rattle.text_place.specs.declared.fault.Place.{Place}
+use Rattle.plain_text.specs.declared.place.Place.{Place}
 use Rattle.scad_lexer.specs.declared.token.Token.{Token}
 use Rattle.scad_lexer.specs.declared.token.TokenKind.{TokenKind}
 use Rattle.scad_lexer.specs.declared.token.TokenKind.TheVariants.{Numeral, Name, Special, Reserved, Symbol, End}
@@ -14,7 +14,7 @@ use Rattle.scad_grammar.specs.Reading.{repeated_read, repeated_times, trailing_i
 use Rattle.scad_grammar.specs.Reads.{expr_read, operand_read}
 use Rattle.scad_grammar.specs.StatementReads.{statement_read, body_read}
 use Rattle.scad_grammar.specs.FirstFault.{IsFirstFault}
-use Rattle.scad_grammar.proofs.FirstFaults.{first_fault}
+use Rattle.scad_grammar.proofs.lemmas.FirstFaults.{first_fault}
 
 abbrev at : ℕ → Place
 at column = record { line = 1; column = column }
@@ -109,7 +109,7 @@ outline_of_if = (
 abbrev Row : ℕ → SyntaxFault → List TokenKind → List TokenKind → Type 0
 Row d fault before behind = IsFirstFault d (placed before ++ placed behind) fault (placed behind)
 
--- so many opening brackets
+-- the given number of opening brackets
 abbrev brackets : ℕ → List TokenKind
 brackets zero = []
 brackets (suc n) = Symbol OpenParenthesis ∷ brackets n

@@ -12,7 +12,7 @@ use Rattle.scad_grammar.specs.Depths.{Depths, one_deeper, single_token_depths, i
 use Rattle.scad_grammar.proofs.Fronts.{Filled, filled_joined, filled_deeper}
 use Rattle.scad_grammar.proofs.Operands.{token}
 use Rattle.scad_grammar.proofs.Primary.{Some_of}
-use Rattle.scad_grammar.proofs.Expressions.{some_expr, some_operand}
+use Rattle.scad_grammar.proofs.lemmas.Expressions.{some_expr, some_operand}
 use Rattle.scad_grammar.proofs.Cores.{some_binders}
 use Rattle.scad_grammar.proofs.Shown.{closed, loop_open, same_open}
 

@@ -1,4 +1,5 @@
--- A program's reader and an outline's reader do the same until one token is refused; where that is a gap, the outline's reader goes on.
+-- A program's reader and an outline's reader do the same until one token is refused; where that is a gap, the outline's reader
+-- goes on.
 use Rattle.std.proofs.Common.{◌≡◌, ℕ, zero, suc, ◌≤◌, List, [], ◌∷◌, length, Bool, true, false, cond, Ok, Err, Some, refl, sym, ap, ◌∙◌, subst, arith, ◌&&◌}
 use Rattle.scad_lexer.specs.declared.token.Token.{Token}
 use Rattle.scad_ast.specs.Terms.{Term, ArgTerm, BinderTerm, EmptyBody, UndefTerm}
@@ -11,7 +12,7 @@ use Rattle.scad_grammar.specs.Faults.{TokenReader, token_read, first_token_read,
 use Rattle.scad_grammar.specs.Reads.{head_of, nested_read, firsts_of_expression, primary_read, arg_in, expr_read, operand_read}
 use Rattle.scad_grammar.specs.StatementReads.{firsts_of_body, firsts_of_statement, binder_read, param_in, binder_in, binders_read, statement_read, body_read, program_read}
 use Rattle.scad_grammar.proofs.Tests.{apart, classes_apart, classes_within}
-use Rattle.scad_grammar.proofs.Shrinks.{left, Shrinks, after_left, one_shrinks, nothing_shrinks, mapped_shrinks, both_shrinks, choice_shrinks, ahead_shrinks, times_left, many_shrinks, trailing_left, trailing_shrinks, front_rest}
+use Rattle.scad_grammar.proofs.lemmas.Shrinks.{left, Shrinks, after_left, one_shrinks, nothing_shrinks, mapped_shrinks, both_shrinks, choice_shrinks, ahead_shrinks, times_left, many_shrinks, trailing_left, trailing_shrinks, front_rest}
 use Rattle.scad_grammar.proofs.Outlines.{refusal, gap, open_arg, open_param, open_binders, open_expr, open_operand, open_statement, open_body, outline_read}
 use Rattle.scad_grammar.proofs.Alike.{Keeps, Free, arg_keeps, param_keeps, binder_keeps, binders_keep, unary_keeps, expression_keeps, primary_keeps, instance_keeps, body_keeps, statement_keeps}
 

@@ -3,7 +3,7 @@ use Rattle.std.proofs.Common.{◌≡◌, List, [], ◌∷◌, ◌++◌, Bool, tr
 use Rattle.scad_grammar.specs.declared.SyntaxFault.{SyntaxFault}
 use Rattle.scad_grammar.specs.declared.SyntaxFault.TheVariants.{Expected, Nested, NotInProfile}
 use Rattle.scad_grammar.specs.Reading.{Read, Reader, then_read, next_is, image_read, empty_read, sequence_read, alternative_read, optional_read}
-use Rattle.scad_grammar.proofs.Readers.{SameHead, IsPrefixIn, Told, IsReader, seen, same_behind, EitherOf, ImageOf, EmptySequence, Opens, mapped_opens, same_reads, choice_reads, mapped_reads, nothing_reads}
+use Rattle.scad_grammar.proofs.lemmas.Readers.{SameHead, IsPrefixIn, Told, IsReader, seen, same_behind, EitherOf, ImageOf, EmptySequence, Opens, mapped_opens, same_reads, choice_reads, mapped_reads, nothing_reads}
 
 -- what was read says which tokens don't follow it
 abbrev pub Stops : {T A : Type 0} → Reader T SyntaxFault A → (A → T → Bool) → Type 0

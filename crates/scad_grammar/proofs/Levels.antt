@@ -8,7 +8,7 @@ use Rattle.scad_grammar.specs.Languages.{Language, Concatenation, Repetition, Si
 use Rattle.scad_grammar.specs.Grammar.{Chain, chain_term, link_term}
 use Rattle.scad_grammar.specs.Faults.{TokenReader, token_read}
 use Rattle.scad_grammar.specs.Reads.{chain_read}
-use Rattle.scad_grammar.proofs.Readers.{IsReader, both_reads, many_reads, many_follows, both_opens, one_opens}
+use Rattle.scad_grammar.proofs.lemmas.Readers.{IsReader, both_reads, many_reads, many_follows, both_opens, one_opens}
 use Rattle.scad_grammar.proofs.Tests.{OneReads, then, apart, next_apart}
 
 -- what may go on a chain

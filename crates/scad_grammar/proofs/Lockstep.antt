@@ -1,5 +1,5 @@
--- A word of a statement and a numeral in one place: a reader refuses both, or reads the numeral where it refuses the word as one that
--- expressions leave out, or the word has its place there.
+-- A word of a statement and a numeral in one place: a reader refuses both, or reads the numeral where it refuses the word as
+-- one that expressions leave out, or the word has its place there.
 use Rattle.std.proofs.Common.{◌≡◌, ℕ, zero, suc, ◌≤◌, List, [], ◌∷◌, ◌++◌, length, Bool, true, false, cond, Ok, Err, Option, Some, None, inl, inr, refl, sym, ap, ◌∙◌, subst, arith, ◌&&◌}
 use Rattle.scad_lexer.specs.declared.token.Token.{Token}
 use Rattle.scad_ast.specs.Terms.{Term, NumberTerm, TextTerm, TruthTerm, UndefTerm, ChildCountTerm, SpecialTerm, ArgTerm, ParamTerm, BinderTerm, CoreTerm, StatementTerm, EmptyStatement, InstanceStatement, BodyTerm}
@@ -15,7 +15,7 @@ use Rattle.scad_grammar.specs.StatementReads.{modifier_signs, loop_words, firsts
 use Rattle.scad_grammar.proofs.Tests.{apart, either_listed, classes_apart, classes_within}
 use Rattle.scad_grammar.proofs.Cores.{loop_over, core_over, instance_over, marks_reads, choice_second}
 use Rattle.scad_grammar.proofs.Deeper.{primary_refuses}
-use Rattle.scad_grammar.proofs.Shrinks.{left, Shrinks, after_left, one_shrinks, nothing_shrinks, mapped_shrinks, both_shrinks, choice_shrinks, ahead_shrinks, times_left, many_shrinks, trailing_left, trailing_shrinks, front_rest}
+use Rattle.scad_grammar.proofs.lemmas.Shrinks.{left, Shrinks, after_left, one_shrinks, nothing_shrinks, mapped_shrinks, both_shrinks, choice_shrinks, ahead_shrinks, times_left, many_shrinks, trailing_left, trailing_shrinks, front_rest}
 use Rattle.scad_grammar.proofs.Alike.{words, Steady, Past, Takes, Keeps, arg_keeps, param_keeps, binder_keeps, binders_keep, params_keep, named_keeps, paren_keeps, filled_keeps, unary_keeps, expression_keeps, instance_keeps, body_keeps, statement_keeps}
 
 abbrev Taken : (A : Type 0) → List ℕ → TokenReader A → Type 0

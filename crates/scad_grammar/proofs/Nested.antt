@@ -6,7 +6,7 @@ use Rattle.scad_grammar.specs.Classes.{has_class_in}
 use Rattle.scad_grammar.specs.Languages.{Language}
 use Rattle.scad_grammar.specs.Faults.{fault_of}
 use Rattle.scad_grammar.specs.Reads.{nested_read}
-use Rattle.scad_grammar.proofs.Readers.{SameHead, IsPrefixIn, Told, IsReader, plain_seen}
+use Rattle.scad_grammar.proofs.lemmas.Readers.{SameHead, IsPrefixIn, Told, IsReader, plain_seen}
 use Rattle.scad_grammar.proofs.Tests.{fault_plain}
 
 module _ {A : Type 0} (begins classes : List ℕ) (L W : Language A) (more : A → Token → Bool) (none : (x : A) (s : List Token) → L x s → ⊥) (begun : (t : Token) → has_class_in begins t ≡ true → IsPrefixIn W (t ∷ [])) (some : IsPrefixIn W []) where

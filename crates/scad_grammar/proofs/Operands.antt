@@ -1,6 +1,6 @@
 -- What is read of suffixes and operands is in the grammar, where that holds of their parts.
 use Rattle.std.proofs.Common.{◌≡◌, ℕ, List, [], ◌∷◌, ◌++◌, false, refl}
-use Rattle.text_place.specs.declared.fault.Place.{Place}
+use Rattle.plain_text.specs.declared.place.Place.{Place}
 use Rattle.scad_lexer.specs.declared.token.Token.{Token}
 use Rattle.scad_lexer.specs.declared.token.TokenKind.{TokenKind}
 use Rattle.scad_lexer.specs.declared.token.TokenKind.TheVariants.{Name, Symbol}
@@ -12,7 +12,7 @@ use Rattle.scad_grammar.specs.Grammar.{Suffix, index_term, member_term, postfix_
 use Rattle.scad_grammar.specs.Reading.{next_is, sequence_read, repeated_read}
 use Rattle.scad_grammar.specs.Faults.{TokenReader, token_read}
 use Rattle.scad_grammar.specs.Reads.{firsts_of_primary, suffix_read, postfix_read, unary_read}
-use Rattle.scad_grammar.proofs.Readers.{IsReader, Opens, both_reads, choice_reads, many_reads, many_follows, both_opens, either_opens, one_opens, never_starts}
+use Rattle.scad_grammar.proofs.lemmas.Readers.{IsReader, Opens, both_reads, choice_reads, many_reads, many_follows, both_opens, either_opens, one_opens, never_starts}
 use Rattle.scad_grammar.proofs.Tests.{OneReads, one_at, then, next_apart, next_within, next_less}
 
 abbrev pub here : Place

@@ -11,15 +11,15 @@ use Rattle.scad_grammar.specs.Reading.{next_is, token_or_fault_read, image_read,
 use Rattle.scad_grammar.specs.Faults.{TokenReader, token_read, fault_of, left_out_classes, left_out_of_expressions}
 use Rattle.scad_grammar.specs.Reads.{head_of, arg_read, args_read, primary_read, unary_read, choice_read}
 use Rattle.scad_grammar.specs.StatementReads.{firsts_of_statement, param_read, binder_read, params_read, binders_read, statement_over, body_over}
-use Rattle.scad_grammar.proofs.Readers.{same_reads, SameHead, Told, IsReader, same_start, plain_seen, seen, one_reads, mapped_reads, never_starts}
-use Rattle.scad_grammar.proofs.Wider.{none_many}
+use Rattle.scad_grammar.proofs.lemmas.Readers.{same_reads, SameHead, Told, IsReader, same_start, plain_seen, seen, one_reads, mapped_reads, never_starts}
+use Rattle.scad_grammar.proofs.lemmas.Wider.{none_many}
 use Rattle.scad_grammar.proofs.Greedy.{Stops, mapped_stops}
 use Rattle.scad_grammar.proofs.Tests.{fault_plain, next_apart, next_less, no_close}
 use Rattle.scad_grammar.proofs.Operands.{token, operand_more}
 use Rattle.scad_grammar.proofs.Primary.{Some_of, before_reads}
-use Rattle.scad_grammar.proofs.Expressions.{ArgsAt, expression_more, expr_opens, some_expr, some_operand, some_args, choice_read_reads, operand_reads, arg_reads, args_over, alone_name, choice_unlike}
+use Rattle.scad_grammar.proofs.lemmas.Expressions.{ArgsAt, expression_more, expr_opens, some_expr, some_operand, some_args, choice_read_reads, operand_reads, arg_reads, args_over, alone_name, choice_unlike}
 use Rattle.scad_grammar.proofs.Cores.{body_more, instance_more, instance_over, instance_reads, instance_stops, instance_unlike, params_reads, param_reads, param_opens, binder_reads, binders_reads, statement_moves}
-use Rattle.scad_grammar.proofs.Statements.{InstanceAt, BindersAt, ParamsAt, StatementsAt, statements_more, end_one, some_body, some_params_at, some_binders_at, some_statements, instance_depth_opens, statement_at_opens, statements_reads, statement_reads, body_reads, body_stops}
+use Rattle.scad_grammar.proofs.lemmas.Statements.{InstanceAt, BindersAt, ParamsAt, StatementsAt, statements_more, end_one, some_body, some_params_at, some_binders_at, some_statements, instance_depth_opens, statement_at_opens, statements_reads, statement_reads, body_reads, body_stops}
 
 -- nothing is read: the next token is refused
 abbrev pub refusal : {A : Type 0} → List ℕ → TokenReader A

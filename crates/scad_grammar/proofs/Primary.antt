@@ -11,7 +11,7 @@ use Rattle.scad_grammar.specs.Grammar.{InParentheses, Arg, Args, Primary, Bracke
 use Rattle.scad_grammar.specs.Reading.{next_is, image_read, empty_read, sequence_read, alternative_read, optional_read, trailing_items}
 use Rattle.scad_grammar.specs.Faults.{TokenReader, token_read, first_token_read}
 use Rattle.scad_grammar.specs.Reads.{firsts_of_primary, args_read, in_parentheses, range_read, rest_read, bracket_read, name_read, paren_read, primary_read}
-use Rattle.scad_grammar.proofs.Readers.{IsReader, Opens, both_reads, choice_reads, mapped_reads, more_reads, nothing_reads, both_opens, either_opens, mapped_opens, one_opens, never_starts}
+use Rattle.scad_grammar.proofs.lemmas.Readers.{IsReader, Opens, both_reads, choice_reads, mapped_reads, more_reads, nothing_reads, both_opens, either_opens, mapped_opens, one_opens, never_starts}
 use Rattle.scad_grammar.proofs.Greedy.{or_first, maybe_ends, maybe_reads}
 use Rattle.scad_grammar.proofs.SeparatedList.{separated_reads, items_reads}
 use Rattle.scad_grammar.proofs.Tests.{OneReads, one_at, first_at, then, apart, within, next_apart, next_within, no_close, close_ends}

@@ -4,7 +4,7 @@ use Rattle.scad_lexer.specs.declared.token.Token.{Token}
 use Rattle.scad_grammar.specs.Languages.{Language, SingleToken, Concatenation, Repetition, OptionalSequence, AfterToken, SeparatedList, cons, first_of}
 use Rattle.scad_grammar.specs.Reading.{next_is, sequence_read, trailing_items}
 use Rattle.scad_grammar.specs.Faults.{TokenReader}
-use Rattle.scad_grammar.proofs.Readers.{IsReader, Opens, both_reads, same_reads}
+use Rattle.scad_grammar.proofs.lemmas.Readers.{IsReader, Opens, both_reads, same_reads}
 use Rattle.scad_grammar.proofs.Trailing.{Trailing, trailing_reads}
 
 module _ {A : Type 0} (mark : Token → Bool) (L : Language A) where

@@ -13,13 +13,13 @@ use Rattle.scad_grammar.specs.Depths.{Depths, one_deeper, single_token_depths, i
 use Rattle.scad_grammar.specs.Reading.{next_is}
 use Rattle.scad_grammar.specs.StatementReads.{firsts_of_statement, firsts_of_instance}
 use Rattle.scad_grammar.specs.Reads.{firsts_of_expression}
-use Rattle.scad_grammar.proofs.Readers.{Opens, both_opens, mapped_opens, one_opens}
+use Rattle.scad_grammar.proofs.lemmas.Readers.{Opens, both_opens, mapped_opens, one_opens}
 use Rattle.scad_grammar.proofs.Tests.{apart, classes_apart}
 use Rattle.scad_grammar.proofs.Operands.{token}
-use Rattle.scad_grammar.proofs.Expressions.{open_firsts_of_expression, expr_opens, arg_opens, choice_opens, unary_opens}
+use Rattle.scad_grammar.proofs.lemmas.Expressions.{open_firsts_of_expression, expr_opens, arg_opens, choice_opens, unary_opens}
 use Rattle.scad_grammar.proofs.Cores.{param_opens, binder_opens, instance_opens}
-use Rattle.scad_grammar.proofs.Statements.{statement_at_opens}
-use Rattle.scad_grammar.proofs.Wider.{none_many}
+use Rattle.scad_grammar.proofs.lemmas.Statements.{statement_at_opens}
+use Rattle.scad_grammar.proofs.lemmas.Wider.{none_many}
 use Rattle.scad_grammar.proofs.Fronts.{no_gap, no_gap_joined, below_parts, below_less, joined_length, Front, front_joined, front_deeper, front_zero, none_below_zero}
 
 -- Something of the outline's language that shows what is written so; it has no open `if` at its end where the

@@ -7,7 +7,7 @@ use Rattle.scad_grammar.specs.Classes.{is_class_among, has_class_in, has_class_o
 use Rattle.scad_grammar.specs.Reading.{next_is}
 use Rattle.scad_grammar.specs.Languages.{Language, SingleToken}
 use Rattle.scad_grammar.specs.Faults.{TokenReader, token_read, first_token_read, fault_of, left_out_classes, left_out_of_expressions}
-use Rattle.scad_grammar.proofs.Readers.{IsReader, IsPlain, Concatenation, one_reads, starts_of, starts_not, starts_less, never_starts, both_reads}
+use Rattle.scad_grammar.proofs.lemmas.Readers.{IsReader, IsPlain, Concatenation, one_reads, starts_of, starts_not, starts_less, never_starts, both_reads}
 use Rattle.scad_grammar.specs.Reading.{sequence_read}
 
 -- no class is in both

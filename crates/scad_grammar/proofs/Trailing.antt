@@ -2,7 +2,7 @@
 use Rattle.std.proofs.Common.{◌≡◌, ℕ, zero, suc, ◌≤◌, List, [], ◌∷◌, ◌++◌, length, Bool, true, false, cond, Ok, Err, ◌⊎◌, inl, inr, refl, sym, ap, ◌∙◌, subst, arith, append_assoc, length-append, append-nil}
 use Rattle.scad_grammar.specs.declared.SyntaxFault.{SyntaxFault}
 use Rattle.scad_grammar.specs.Reading.{Read, Reader, then_read, next_is, with_front, trailing_times, trailing_items}
-use Rattle.scad_grammar.proofs.Readers.{SameHead, Told, IsReader, SingleToken, Opens, seen, same_behind, same_start}
+use Rattle.scad_grammar.proofs.lemmas.Readers.{SameHead, Told, IsReader, SingleToken, Opens, seen, same_behind, same_start}
 
 abbrev pub Trailing : {T A : Type 0} → (T → Bool) → (A → List T → Type 0) → List A → List T → Type 0
 Trailing {T} mark L [] s = (s ≡ []) ⊎ ((t : T) × SingleToken mark t s)

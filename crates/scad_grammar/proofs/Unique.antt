@@ -8,7 +8,7 @@ use Rattle.scad_grammar.specs.Grammar.{InParentheses, items, range_rest, Arg, Ar
 use Rattle.scad_grammar.specs.Reading.{next_is}
 use Rattle.scad_grammar.specs.Depths.{Depths, one_deeper, single_token_depths, image_depths, concatenation_depths, concatenation_if_depths, depths_of_alternation, alternation_depths, empty_sequence_depths, depths_of_repetition, repetition_depths, depths_of_optional, optional_depths, empty_language_depths, after_token_depths, before_token_depths, separated_list_depths, parentheses_depths, arg_depths, args_depths, param_depths, params_depths, binders_depths, bracket_depths, primary_depths, suffix_depths, unary_depths, chain_depths, choice_depths, args_in_depths, params_in_depths, binders_in_depths, expr_depths, operand_depths, core_depths, instance_depths, body_of_depths, statement_of_depths, statements_in_depths, instance_in_depths, statement_depths, body_depths, program_depths, HasDepths}
 use Rattle.scad_grammar.proofs.Tests.{apart, classes_apart}
-use Rattle.scad_grammar.proofs.Programs.{one_program}
+use Rattle.scad_grammar.proofs.lemmas.Programs.{one_program}
 use Rattle.scad_grammar.proofs.Taken.{Taken, Takes, one, none, and_then, deep, last_comma, in_pair, each, perhaps, more, items_taken, separated, term, link_taken, suffix_taken, argument, rest_taken, range_taken, parameter, binder, statement, statements, instance, core, body, same_pair, statements_taken, chain_taken, postfix_taken, sides, choice_taken, named_taken, inner_taken, bracket_taken, given_taken, parameter_taken, instance_taken, tested, if_taken, loop_taken}
 
 -- what is written by some tokens tells their depths, whatever stands behind them that may

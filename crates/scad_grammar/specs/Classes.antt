@@ -1,5 +1,5 @@
 -- Classes of tokens: what a token is, without its number or bytes.
-use Rattle.std.specs.Prelude.{ℕ, List, [], ◌∷◌, Bool, true, false, cond, not, nat_eq, codes}
+use Rattle.std.specs.Prelude.{ℕ, List, [], ◌∷◌, map, Bool, true, false, cond, not, nat_eq, codes}
 use Rattle.std.specs.Str.{bytes_eq}
 use Rattle.scad_lexer.specs.declared.token.Token.{Token}
 use Rattle.scad_lexer.specs.declared.token.TokenKind.{TokenKind}
@@ -8,6 +8,100 @@ use Rattle.scad_lexer.specs.declared.token.Reserved.{Reserved}
 use Rattle.scad_lexer.specs.declared.token.Reserved.TheVariants.{Module, Function, If, Else, For, IntersectionFor, True, False, Undef, Use, Include, Let, Each}
 use Rattle.scad_lexer.specs.declared.token.Symbol.{Symbol}
 use Rattle.scad_lexer.specs.declared.token.Symbol.TheVariants.{OpenParenthesis, CloseParenthesis, OpenBracket, CloseBracket, OpenBrace, CloseBrace, Comma, Semicolon, Assign, Colon, Question, Dot, Plus, Minus, Times, Divide, Remainder, Less, Greater, LessEqual, GreaterEqual, Equal, NotEqual, And, Or, Not, Hash, Caret}
+
+-- reserved names by numbers, so that they can be compared
+abbrev pub reserved_class : Reserved → ℕ
+reserved_class Module = 10
+reserved_class Function = 11
+reserved_class If = 12
+reserved_class Else = 13
+reserved_class For = 14
+reserved_class IntersectionFor = 15
+reserved_class True = 16
+reserved_class False = 17
+reserved_class Undef = 18
+reserved_class Use = 19
+reserved_class Include = 20
+reserved_class Let = 21
+reserved_class Each = 22
+
+-- symbols by numbers
+abbrev pub symbol_class : Symbol → ℕ
+symbol_class OpenParenthesis = 30
+symbol_class CloseParenthesis = 31
+symbol_class OpenBracket = 32
+symbol_class CloseBracket = 33
+symbol_class OpenBrace = 34
+symbol_class CloseBrace = 35
+symbol_class Comma = 36
+symbol_class Semicolon = 37
+symbol_class Assign = 38
+symbol_class Colon = 39
+symbol_class Question = 40
+symbol_class Dot = 41
+symbol_class Plus = 42
+symbol_class Minus = 43
+symbol_class Times = 44
+symbol_class Divide = 45
+symbol_class Remainder = 46
+symbol_class Less = 47
+symbol_class Greater = 48
+symbol_class LessEqual = 49
+symbol_class GreaterEqual = 50
+symbol_class Equal = 51
+symbol_class NotEqual = 52
+symbol_class And = 53
+symbol_class Or = 54
+symbol_class Not = 55
+symbol_class Hash = 56
+symbol_class Caret = 57
+
+-- tokens by the numbers of their kinds, whatever their value or bytes; `$children` is a kind of its own
+abbrev pub token_class : TokenKind → ℕ
+token_class (Numeral n) = 0
+token_class (Name bytes) = 1
+token_class (Special bytes) = cond (bytes_eq bytes (codes "children")) 2 3
+token_class (Text bytes) = 4
+token_class (ReservedToken reserved) = reserved_class reserved
+token_class (SymbolToken symbol) = symbol_class symbol
+token_class End = 5
+
+-- the class is one of these
+abbrev pub is_class_among : List ℕ → ℕ → Bool
+is_class_among [] wanted = false
+is_class_among (known ∷ others) wanted = cond (nat_eq wanted known) true (is_class_among others wanted)
+
+-- a token of one of these classes
+abbrev pub has_class_in : List ℕ → Token → Bool
+has_class_in classes token = is_class_among classes (token_class token.kind)
+
+-- a token of this kind
+abbrev pub is_like : TokenKind → Token → Bool
+is_like kind = has_class_in (token_class kind ∷ [])
+
+-- a token of one of these kinds
+abbrev pub is_like_one_of : List TokenKind → Token → Bool
+is_like_one_of kinds = has_class_in (map token_class kinds)
+
+-- the number of a numeral
+abbrev pub numeral_value : TokenKind → ℕ
+numeral_value (Numeral n) = n
+numeral_value kind = 0
+
+-- the bytes of a name, a special name or a text
+abbrev pub bytes_of : TokenKind → List ℕ
+bytes_of (Name bytes) = bytes
+bytes_of (Special bytes) = bytes
+bytes_of (Text bytes) = bytes
+bytes_of kind = []
+
+-- a token of this class
+abbrev pub has_class : ℕ → Token → Bool
+has_class wanted = has_class_in (wanted ∷ [])
+
+-- a token of none of these classes
+abbrev pub has_class_outside : List ℕ → Token → Bool
+has_class_outside classes token = not (has_class_in classes token)
 
 -- the class of a numeral
 abbrev pub numeral_class : ℕ
@@ -33,256 +127,170 @@ text_class = 4
 abbrev pub end_class : ℕ
 end_class = 5
 
--- the classes of reserved names: the word `module`
+-- the word `module`
 abbrev pub module_word : ℕ
-module_word = 10
+module_word = reserved_class Module
 
 -- the word `function`
 abbrev pub function_word : ℕ
-function_word = 11
+function_word = reserved_class Function
 
 -- the word `if`
 abbrev pub if_word : ℕ
-if_word = 12
+if_word = reserved_class If
 
 -- the word `else`
 abbrev pub else_word : ℕ
-else_word = 13
+else_word = reserved_class Else
 
 -- the word `for`
 abbrev pub for_word : ℕ
-for_word = 14
+for_word = reserved_class For
 
 -- the word `intersection_for`
 abbrev pub intersection_for_word : ℕ
-intersection_for_word = 15
+intersection_for_word = reserved_class IntersectionFor
 
 -- the word `true`
 abbrev pub true_word : ℕ
-true_word = 16
+true_word = reserved_class True
 
 -- the word `false`
 abbrev pub false_word : ℕ
-false_word = 17
+false_word = reserved_class False
 
 -- the word `undef`
 abbrev pub undef_word : ℕ
-undef_word = 18
+undef_word = reserved_class Undef
 
 -- the word `use`
 abbrev pub use_word : ℕ
-use_word = 19
+use_word = reserved_class Use
 
 -- the word `include`
 abbrev pub include_word : ℕ
-include_word = 20
+include_word = reserved_class Include
 
 -- the word `let`
 abbrev pub let_word : ℕ
-let_word = 21
+let_word = reserved_class Let
 
 -- the word `each`
 abbrev pub each_word : ℕ
-each_word = 22
+each_word = reserved_class Each
 
--- the classes of symbols: the sign `(`
+-- the sign `(`
 abbrev pub open_parenthesis_sign : ℕ
-open_parenthesis_sign = 30
+open_parenthesis_sign = symbol_class OpenParenthesis
 
 -- the sign `)`
 abbrev pub close_parenthesis_sign : ℕ
-close_parenthesis_sign = 31
+close_parenthesis_sign = symbol_class CloseParenthesis
 
 -- the sign `[`
 abbrev pub open_bracket_sign : ℕ
-open_bracket_sign = 32
+open_bracket_sign = symbol_class OpenBracket
 
 -- the sign `]`
 abbrev pub close_bracket_sign : ℕ
-close_bracket_sign = 33
+close_bracket_sign = symbol_class CloseBracket
 
 -- the sign `{`
 abbrev pub open_brace_sign : ℕ
-open_brace_sign = 34
+open_brace_sign = symbol_class OpenBrace
 
 -- the sign `}`
 abbrev pub close_brace_sign : ℕ
-close_brace_sign = 35
+close_brace_sign = symbol_class CloseBrace
 
 -- the sign `,`
 abbrev pub comma_sign : ℕ
-comma_sign = 36
+comma_sign = symbol_class Comma
 
 -- the sign `;`
 abbrev pub semicolon_sign : ℕ
-semicolon_sign = 37
+semicolon_sign = symbol_class Semicolon
 
 -- the sign `=`
 abbrev pub assign_sign : ℕ
-assign_sign = 38
+assign_sign = symbol_class Assign
 
 -- the sign `:`
 abbrev pub colon_sign : ℕ
-colon_sign = 39
+colon_sign = symbol_class Colon
 
 -- the sign `?`
 abbrev pub question_sign : ℕ
-question_sign = 40
+question_sign = symbol_class Question
 
 -- the sign `.`
 abbrev pub dot_sign : ℕ
-dot_sign = 41
+dot_sign = symbol_class Dot
 
 -- the sign `+`
 abbrev pub plus_sign : ℕ
-plus_sign = 42
+plus_sign = symbol_class Plus
 
 -- the sign `-`
 abbrev pub minus_sign : ℕ
-minus_sign = 43
+minus_sign = symbol_class Minus
 
 -- the sign `*`
 abbrev pub times_sign : ℕ
-times_sign = 44
+times_sign = symbol_class Times
 
 -- the sign `/`
 abbrev pub divide_sign : ℕ
-divide_sign = 45
+divide_sign = symbol_class Divide
 
 -- the sign `%`
 abbrev pub remainder_sign : ℕ
-remainder_sign = 46
+remainder_sign = symbol_class Remainder
 
 -- the sign `<`
 abbrev pub less_sign : ℕ
-less_sign = 47
+less_sign = symbol_class Less
 
 -- the sign `>`
 abbrev pub greater_sign : ℕ
-greater_sign = 48
+greater_sign = symbol_class Greater
 
 -- the sign `<=`
 abbrev pub less_equal_sign : ℕ
-less_equal_sign = 49
+less_equal_sign = symbol_class LessEqual
 
 -- the sign `>=`
 abbrev pub greater_equal_sign : ℕ
-greater_equal_sign = 50
+greater_equal_sign = symbol_class GreaterEqual
 
 -- the sign `==`
 abbrev pub equal_sign : ℕ
-equal_sign = 51
+equal_sign = symbol_class Equal
 
 -- the sign `!=`
 abbrev pub not_equal_sign : ℕ
-not_equal_sign = 52
+not_equal_sign = symbol_class NotEqual
 
 -- the sign `&&`
 abbrev pub and_sign : ℕ
-and_sign = 53
+and_sign = symbol_class And
 
 -- the sign `||`
 abbrev pub or_sign : ℕ
-or_sign = 54
+or_sign = symbol_class Or
 
 -- the sign `!`
 abbrev pub not_sign : ℕ
-not_sign = 55
+not_sign = symbol_class Not
 
 -- the sign `#`
 abbrev pub hash_sign : ℕ
-hash_sign = 56
+hash_sign = symbol_class Hash
 
 -- the sign `^`, which no form of the grammar has
 abbrev pub caret_sign : ℕ
-caret_sign = 57
-
--- the class of a reserved name
-abbrev pub reserved_class : Reserved → ℕ
-reserved_class Module = module_word
-reserved_class Function = function_word
-reserved_class If = if_word
-reserved_class Else = else_word
-reserved_class For = for_word
-reserved_class IntersectionFor = intersection_for_word
-reserved_class True = true_word
-reserved_class False = false_word
-reserved_class Undef = undef_word
-reserved_class Use = use_word
-reserved_class Include = include_word
-reserved_class Let = let_word
-reserved_class Each = each_word
-
--- the class of a symbol
-abbrev pub symbol_class : Symbol → ℕ
-symbol_class OpenParenthesis = open_parenthesis_sign
-symbol_class CloseParenthesis = close_parenthesis_sign
-symbol_class OpenBracket = open_bracket_sign
-symbol_class CloseBracket = close_bracket_sign
-symbol_class OpenBrace = open_brace_sign
-symbol_class CloseBrace = close_brace_sign
-symbol_class Comma = comma_sign
-symbol_class Semicolon = semicolon_sign
-symbol_class Assign = assign_sign
-symbol_class Colon = colon_sign
-symbol_class Question = question_sign
-symbol_class Dot = dot_sign
-symbol_class Plus = plus_sign
-symbol_class Minus = minus_sign
-symbol_class Times = times_sign
-symbol_class Divide = divide_sign
-symbol_class Remainder = remainder_sign
-symbol_class Less = less_sign
-symbol_class Greater = greater_sign
-symbol_class LessEqual = less_equal_sign
-symbol_class GreaterEqual = greater_equal_sign
-symbol_class Equal = equal_sign
-symbol_class NotEqual = not_equal_sign
-symbol_class And = and_sign
-symbol_class Or = or_sign
-symbol_class Not = not_sign
-symbol_class Hash = hash_sign
-symbol_class Caret = caret_sign
-
--- the class of a token; `$children` has its own
-abbrev pub token_class : TokenKind → ℕ
-token_class (Numeral n) = numeral_class
-token_class (Name bytes) = name_class
-token_class (Special bytes) = cond (bytes_eq bytes (codes "children")) child_count_class special_class
-token_class (Text bytes) = text_class
-token_class (ReservedToken reserved) = reserved_class reserved
-token_class (SymbolToken symbol) = symbol_class symbol
-token_class End = end_class
-
--- the class is one of these
-abbrev pub is_class_among : List ℕ → ℕ → Bool
-is_class_among [] wanted = false
-is_class_among (known ∷ others) wanted = cond (nat_eq wanted known) true (is_class_among others wanted)
-
--- a token of one of these classes
-abbrev pub has_class_in : List ℕ → Token → Bool
-has_class_in classes token = is_class_among classes (token_class token.kind)
-
--- a token of this class
-abbrev pub has_class : ℕ → Token → Bool
-has_class wanted = has_class_in (wanted ∷ [])
-
--- a token of none of these classes
-abbrev pub has_class_outside : List ℕ → Token → Bool
-has_class_outside classes token = not (has_class_in classes token)
+caret_sign = symbol_class Caret
 
 -- what an argument may be given by: a name, or a special name other than `$children`
 abbrev pub argument_names : List ℕ
 argument_names = name_class ∷ special_class ∷ []
-
--- the number of a numeral
-abbrev pub numeral_value : TokenKind → ℕ
-numeral_value (Numeral n) = n
-numeral_value kind = 0
-
--- the bytes of a name, a special name or a text
-abbrev pub bytes_of : TokenKind → List ℕ
-bytes_of (Name bytes) = bytes
-bytes_of (Special bytes) = bytes
-bytes_of (Text bytes) = bytes
-bytes_of kind = []

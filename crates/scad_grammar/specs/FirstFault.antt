@@ -1,12 +1,13 @@
 -- Which token is the first fault of some tokens, and of what kind it is.
 use Rattle.std.specs.Prelude.{◌≡◌, ℕ, List, [], ◌∷◌, ◌++◌, true, ◌⊎◌}
 use Rattle.scad_lexer.specs.declared.token.Token.{Token}
+use Rattle.scad_lexer.specs.declared.token.TokenKind.TheVariants.{Numeral}
 use Rattle.scad_ast.specs.Terms.{StatementTerm}
 use Rattle.scad_grammar.specs.declared.SyntaxFault.{SyntaxFault}
 use Rattle.scad_grammar.specs.declared.SyntaxFault.TheVariants.{Expected, Nested, NotInProfile}
-use Rattle.scad_grammar.specs.Classes.{numeral_class, has_class_in, has_class}
+use Rattle.scad_grammar.specs.Classes.{has_class_in, is_like}
 use Rattle.scad_grammar.specs.Faults.{left_out_classes, left_out_of_expressions}
-use Rattle.scad_grammar.specs.Grammar.{WholeProgram, ProgramWithGaps}
+use Rattle.scad_grammar.specs.Grammar.{WholeProgram, ProgramIn, with_gaps}
 
 -- some program, however deep, begins with these tokens
 abbrev pub IsProgramPrefix : List Token → Type 0
@@ -15,11 +16,11 @@ IsProgramPrefix tokens = (depth : ℕ) × (program : List StatementTerm) × (res
 -- Some program begins with these tokens in which each of them is less deep than so much: one with gaps
 -- does, and before its first gap it shows only what is less deep.
 abbrev pub IsShallowProgramPrefix : ℕ → List Token → Type 0
-IsShallowProgramPrefix depth tokens = IsProgramPrefix tokens × (program : List StatementTerm) × (rest : List Token) × ProgramWithGaps depth program (tokens ++ rest)
+IsShallowProgramPrefix depth tokens = IsProgramPrefix tokens × (program : List StatementTerm) × (rest : List Token) × ProgramIn with_gaps depth program (tokens ++ rest)
 
 -- the place behind these tokens is that of an expression: a numeral could stand there
 abbrev pub BeforeExpression : List Token → Type 0
-BeforeExpression tokens = (next : Token) × (has_class numeral_class next ≡ true) × IsProgramPrefix (tokens ++ next ∷ [])
+BeforeExpression tokens = (next : Token) × (is_like (Numeral 0) next ≡ true) × IsProgramPrefix (tokens ++ next ∷ [])
 
 -- behind these tokens, this one is of a form that the profile leaves out
 abbrev pub IsLeftOut : List Token → Token → Type 0

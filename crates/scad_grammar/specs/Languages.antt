@@ -64,12 +64,12 @@ cons x xs = x ∷ xs
 
 -- first one token of these, then something behind it, for which the whole stands
 abbrev pub AfterToken : {A : Type 0} → (Token → Bool) → Language A → Language A
-AfterToken test L = Concatenation second_of (SingleToken test) L
+AfterToken test L = Concatenation (λ token x. x) (SingleToken test) L
 
 -- first something, for which the whole stands, then one token of these behind it
 abbrev pub BeforeToken : {A : Type 0} → Language A → (Token → Bool) → Language A
-BeforeToken L test = Concatenation first_of L (SingleToken test)
+BeforeToken L test = Concatenation (λ x token. x) L (SingleToken test)
 
 -- some, at least one, with separators between them and maybe one behind the last
 abbrev pub SeparatedList : {A : Type 0} → (Token → Bool) → Language A → Language (List A)
-SeparatedList mark L = Concatenation first_of (Concatenation cons L (Repetition (AfterToken mark L))) (OptionalSequence (SingleToken mark))
+SeparatedList mark L = Concatenation (λ items last. items) (Concatenation (λ x xs. x ∷ xs) L (Repetition (AfterToken mark L))) (OptionalSequence (SingleToken mark))

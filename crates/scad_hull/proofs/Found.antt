@@ -5,7 +5,7 @@ use Rattle.std.proofs.lemmas.Bool.{cases_Bool, cond-true, cond-false, and_from, 
 use Rattle.scad_hull.specs.Hulls.{faces_of_hull, first_of_planes, numbers_between, is_supporting, shares_plane, triples, triples_by, triples_from}
 use Rattle.scad_hull.specs.Steps.{with_triple, with_triples}
 use Rattle.scad_hull.proofs.Supporting.{all_first, all_triples, support_of, through_both, IsSupport, IsTriple}
-use Rattle.scad_hull.proofs.Members.{all_filter}
+use Rattle.scad_hull.proofs.lemmas.Members.{all_filter}
 
 -- ---- lists
 pub fold_append : {A B : Type 0} (f : B → A → B) (a : B) (xs ys : List A) → fold f a (xs ++ ys) ≡ fold f (fold f a xs) ys

@@ -1,9 +1,5 @@
-pub mod Alternative
-pub mod Turns
-pub mod Lines
+pub mod lemmas
 pub mod Supports
-pub mod Inner
-pub mod Members
 pub mod Tests
 pub mod Supporting
 pub mod Solids
@@ -11,6 +7,5 @@ pub mod Found
 pub mod Orders
 pub mod Ordered
 mod Rows
-pub mod Loops
 pub mod Surrounded
 pub mod PlaneRows

@@ -7,7 +7,7 @@ use Rattle.std.specs.List.Sorted.{IsStrictlySortedBy}
 use Rattle.std.specs.Ordering.{ordering_reverse, ordering_then}
 use Rattle.std.proofs.lemmas.Bool.Decides.{Decides-int_eq}
 use Rattle.scad_hull.specs.Hulls.{points_in_order, point_put_among}
-use Rattle.scad_hull.proofs.Members.{found_at, IsAmong}
+use Rattle.scad_hull.proofs.lemmas.Members.{found_at, IsAmong}
 
 abbrev by : List ℤ → List ℤ → Ordering
 by p q = slice_cmp int_cmp p q

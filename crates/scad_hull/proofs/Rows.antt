@@ -1,7 +1,7 @@
 -- Hulls that are written out.
 use Rattle.std.proofs.Common.{◌≡◌, ℕ, List, [], ◌∷◌, ℤ, pos, negsuc, ◌<ℤ◌, refl, arith}
 use Rattle.std.proofs.lemmas.List.Elements.{All-from_recursion}
-use Rattle.plane_predicate.proofs.IntegerRing.{sums}
+use Rattle.plane_predicate.proofs.lemmas.IntegerRing.{sums}
 use Rattle.scad_hull.specs.Combinations.{IsInnerCombination}
 use Rattle.scad_hull.specs.Hulls.{points_in_order, faces_of_hull}
 

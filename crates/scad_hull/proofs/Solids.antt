@@ -4,22 +4,22 @@ use Rattle.std.proofs.lemmas.Bool.{cases_order}
 use Rattle.std.proofs.lemmas.List.{get_or_default}
 use Rattle.std.proofs.lemmas.List.Elements.{All-from_recursion}
 use Rattle.plane_predicate.specs.Space.{Coefficients, Coordinates, point_at, value, minor, opposite_of, AreCollinear}
-use Rattle.plane_predicate.proofs.IntegerRing.{sums, mul_comm_ℤ, zero_mul}
-use Rattle.plane_predicate.proofs.Opposites.{size_of_negative}
-use Rattle.plane_predicate.proofs.Polynomials.{var, num, plus, times, minus, ring}
-use Rattle.plane_predicate.proofs.Signs.{signs, pos_neg, neg_neg, most_most, most_least, neg_pos}
-use Rattle.plane_predicate.proofs.Vectors.{minorP, value-opposite}
+use Rattle.plane_predicate.proofs.lemmas.IntegerRing.{sums, mul_comm_ℤ, zero_mul}
+use Rattle.plane_predicate.proofs.lemmas.Opposites.{size_of_negative}
+use Rattle.plane_predicate.proofs.lemmas.Polynomials.{var, num, plus, times, minus, ring}
+use Rattle.plane_predicate.proofs.lemmas.Signs.{signs, pos_neg, neg_neg, most_most, most_least, neg_pos}
+use Rattle.plane_predicate.proofs.lemmas.Vectors.{minorP, value-opposite}
 use Rattle.primitives.specs.Shapes.{Mesh, mesh_point, value_at_point, HasFreeSide, HasTriangle, IsBehindFace, IsPlaneOfFace, IsPointInRange, IsInside, IsOnOnePlane, MakesShape}
-use Rattle.primitives.proofs.Moves.{cancelled}
+use Rattle.primitives.proofs.lemmas.Moves.{cancelled}
 use Rattle.scad_hull.specs.Combinations.{IsInnerCombination}
 use Rattle.scad_hull.specs.Hulls.{faces_of_hull, plane_of, AreOnOnePlane}
 use Rattle.scad_hull.proofs.Supporting.{all_faces, crossed, has_face, not_nowhere, own, same_zeros, IsSupport, IsTriple}
-use Rattle.scad_hull.proofs.Inner.{behind_each, inner}
-use Rattle.scad_hull.proofs.Lines.{cyclic, plane, swapped, value_default, with_direction, zero_by}
-use Rattle.scad_hull.proofs.Members.{IsAmong, found_at, member}
+use Rattle.scad_hull.proofs.lemmas.Inner.{behind_each, inner}
+use Rattle.scad_hull.proofs.lemmas.Lines.{cyclic, plane, swapped, value_default, with_direction, zero_by}
+use Rattle.scad_hull.proofs.lemmas.Members.{IsAmong, found_at, member}
 use Rattle.scad_hull.proofs.Supports.{some_support}
 use Rattle.scad_hull.proofs.Tests.{Holds, is_support, shared, Supports, triple}
-use Rattle.scad_hull.proofs.Turns.{both_signs, nearest, Bounds}
+use Rattle.scad_hull.proofs.lemmas.Turns.{both_signs, nearest, Bounds}
 
 -- ---- a face for three points on a plane that no point is ahead of
 abbrev most_all : List (List ℤ) → Coefficients → Type 0

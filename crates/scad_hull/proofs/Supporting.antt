@@ -3,13 +3,13 @@ use Rattle.std.proofs.Common.{◌≡◌, inl, inr, true, not, List, [], ◌∷�
 use Rattle.std.specs.List.{AllByRecursion}
 use Rattle.std.proofs.lemmas.Bool.{cases_Bool, not_from_false}
 use Rattle.plane_predicate.specs.Space.{Coefficients, Coordinates, value, AreCollinear}
-use Rattle.plane_predicate.proofs.IntegerRing.{mul_comm_ℤ, zero_mul}
+use Rattle.plane_predicate.proofs.lemmas.IntegerRing.{mul_comm_ℤ, zero_mul}
 use Rattle.primitives.specs.Shapes.{mesh_point}
-use Rattle.primitives.proofs.Moves.{cancelled}
-use Rattle.primitives.proofs.OnePlane.{nowhere, two_planes}
+use Rattle.primitives.proofs.lemmas.Moves.{cancelled}
+use Rattle.primitives.proofs.lemmas.OnePlane.{nowhere, two_planes}
 use Rattle.scad_hull.specs.Hulls.{faces_of_hull, first_of_planes, numbers_between, is_supporting, plane_of, shares_plane, triples, triples_by, triples_from}
-use Rattle.scad_hull.proofs.Lines.{at, holds_first, holds_second, holds_third, plane, zero_by}
-use Rattle.scad_hull.proofs.Members.{all_filter, all_flat, all_from, all_map, all_weaker, among_filter, among_flat, among_from, among_map, IsAmong, IsWithin, member}
+use Rattle.scad_hull.proofs.lemmas.Lines.{at, holds_first, holds_second, holds_third, plane, zero_by}
+use Rattle.scad_hull.proofs.lemmas.Members.{all_filter, all_flat, all_from, all_map, all_weaker, among_filter, among_flat, among_from, among_map, IsAmong, IsWithin, member}
 use Rattle.scad_hull.proofs.Tests.{Holds, shared, shares, supports, Supports, triple}
 
 -- ---- planes through the same three points

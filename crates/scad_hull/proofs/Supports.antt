@@ -1,11 +1,11 @@
 -- From a plane that no point is ahead of to one that holds three of the points, which aren't on one line.
 use Rattle.std.proofs.Common.{◌≡◌, inl, inr, List, length, ◌<◌, ℕ, ℤ, pos}
 use Rattle.plane_predicate.specs.Space.{Coefficients, Coordinates, AreCollinear}
-use Rattle.plane_predicate.proofs.Signs.{signs}
+use Rattle.plane_predicate.proofs.lemmas.Signs.{signs}
 use Rattle.primitives.specs.Shapes.{mesh_point, value_at_point}
 use Rattle.scad_hull.specs.Hulls.{AreOnOnePlane}
-use Rattle.scad_hull.proofs.Lines.{cyclic, holds_first, holds_second, holds_third, in_plane, plane, some_off, some_triangle, swapped}
-use Rattle.scad_hull.proofs.Turns.{both_signs, Bounds, turn}
+use Rattle.scad_hull.proofs.lemmas.Lines.{cyclic, holds_first, holds_second, holds_third, in_plane, plane, some_off, some_triangle, swapped}
+use Rattle.scad_hull.proofs.lemmas.Turns.{both_signs, Bounds, turn}
 
 -- nothing holds of the points without a plane through three of them, not on one line, that no point is ahead of, with q
 -- on it or ahead

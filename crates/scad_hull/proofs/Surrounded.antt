@@ -2,15 +2,15 @@
 use Rattle.std.proofs.Common.{◌≡◌, inl, inr, ◌∷◌, [], List, refl, sym, ap, ◌∙◌, arith, ℤ, pos, ◌+ℤ◌, ◌-ℤ◌, ◌*ℤ◌, ◌<ℤ◌, ◌≤ℤ◌, ℕ, ◌<◌, length}
 use Rattle.std.proofs.lemmas.Bool.{false_from_ne_true}
 use Rattle.plane_predicate.specs.Space.{Coefficients, Coordinates, value, opposite_of, plane_of_points, AreCollinear}
-use Rattle.plane_predicate.proofs.IntegerRing.{sums, mul_comm_ℤ, mul_neg_right, zero_mul}
-use Rattle.plane_predicate.proofs.Polynomials.{var, num, plus, times, minus, ring}
-use Rattle.plane_predicate.proofs.Signs.{most_least, zero_cancel}
-use Rattle.plane_predicate.proofs.Vectors.{form, of_plane, valueP, value-opposite}
+use Rattle.plane_predicate.proofs.lemmas.IntegerRing.{sums, mul_comm_ℤ, mul_neg_right, zero_mul}
+use Rattle.plane_predicate.proofs.lemmas.Polynomials.{var, num, plus, times, minus, ring}
+use Rattle.plane_predicate.proofs.lemmas.Signs.{most_least, zero_cancel}
+use Rattle.plane_predicate.proofs.lemmas.Vectors.{form, of_plane, valueP, value-opposite}
 use Rattle.primitives.specs.Shapes.{mesh_point, value_at_point}
-use Rattle.primitives.proofs.Moves.{throughP, whole, wholeP}
+use Rattle.primitives.proofs.lemmas.Moves.{throughP, whole, wholeP}
 use Rattle.scad_hull.specs.Hulls.{is_supporting}
 use Rattle.scad_hull.specs.Steps.{HasNoFace}
-use Rattle.scad_hull.proofs.Lines.{at, holds_first, holds_second, plane}
+use Rattle.scad_hull.proofs.lemmas.Lines.{at, holds_first, holds_second, plane}
 use Rattle.scad_hull.proofs.Supporting.{crossed, not_nowhere, own}
 use Rattle.scad_hull.proofs.Tests.{supports, triple}
 

@@ -8,7 +8,7 @@ use Rattle.std.proofs.lemmas.List.Elements.{All-from_recursion, recursion_from_A
 use Rattle.plane_predicate.specs.Space.{Coefficients, point_at, value, opposite_of, AreCollinear}
 use Rattle.primitives.specs.Shapes.{mesh_point, value_at_point}
 use Rattle.scad_hull.specs.Hulls.{is_directed, has_none_ahead, is_supporting, plane_of, shares_plane}
-use Rattle.scad_hull.proofs.Lines.{plane}
+use Rattle.scad_hull.proofs.lemmas.Lines.{plane}
 
 pub le_true : (x y : ℤ) → int_le x y ≡ true → x ≤ℤ y
 le_true x y h = grind (arith, ints)

@@ -17,7 +17,7 @@ pub record HaveHull (given : List (List ℤ)) : Type 0 where
   pub few : length (points_in_order given) ≤ 128
   pub solid : AreOnOnePlane (points_in_order given) → ⊥
 
--- why points have no hull: the first of these conditions that fails. Want of memory may come at any time
+-- why points have no hull: the first of these conditions that fails. Memory may run out at any time
 abbrev pub IsHullStop : List (List ℤ) → ShapeStop → Type 0
 IsHullStop given (Kind OutOfRange) = ArePointsInRange given → ⊥
 IsHullStop given (Kind LongList) = ArePointsInRange given × (128 < length (points_in_order given))

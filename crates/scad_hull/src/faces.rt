@@ -12,7 +12,7 @@ use crate::plane_points::{common_row, row_of};
 use crate::triples::{is_listed, supports};
 use std::alloc::{AllocError, Global};
 
-/// The numbers of so many points; the first is 0.
+/// The numbers of the given number of points; the first is 0.
 pub fn numbers(alloc: Global, count: usize) -> Result<Vec<u32>, AllocError>
     requires { count ≤ 128 }
     ensures { IfOk result (λ v. v.items ≡ numbers_between 0 count) }

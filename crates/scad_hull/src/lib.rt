@@ -1,4 +1,4 @@
-//! The hull of points, whose inside is their inner combinations, or the first fault.
+//! The hull of points, or the first fault; the inside of a hull is the set of inner combinations of its points.
 #![tactic(auto)]
 
 mod around;

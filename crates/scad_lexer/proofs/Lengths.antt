@@ -1,7 +1,7 @@
 -- A source has at most one token more than bytes: its end.
 use Rattle.std.proofs.Common.{◌≡◌, ℕ, zero, suc, ◌+◌, ◌≤◌, List, [], ◌∷◌, length, take, drop, Some, None, Option, Result, Ok, Err, ◌⊎◌, inl, inr, sym, subst, arith, IfOk, length-drop}
 use Rattle.std.specs.Global.{Vec}
-use Rattle.text_place.specs.declared.fault.Place.{Place}
+use Rattle.plain_text.specs.declared.place.Place.{Place}
 use Rattle.text_place.specs.declared.fault.Stop.{Stop}
 use Rattle.scad_lexer.specs.declared.token.Token.{Token}
 use Rattle.scad_lexer.specs.declared.word.Word.{Word}

@@ -1,6 +1,6 @@
 -- Sources that are written out, with their tokens or their first fault.
 use Rattle.std.proofs.Common.{◌≡◌, ℕ, zero, suc, List, [], ◌∷◌, take, drop, Option, Some, None, option_map, refl, sym, subst, inl, inr, codes}
-use Rattle.text_place.specs.declared.fault.Place.{Place}
+use Rattle.plain_text.specs.declared.place.Place.{Place}
 use Rattle.text_place.specs.declared.fault.FaultKind.TheVariants.{BadCharacter, OpenComment, OpenText, NotWhole, TooLarge}
 use Rattle.scad_lexer.specs.declared.token.Token.{Token}
 use Rattle.scad_lexer.specs.declared.token.TokenKind.{TokenKind}
@@ -25,7 +25,7 @@ abbrev by_word : (Place → List ℕ → Option LexOutcome) → Place → List �
 by_word go p t None = Some (FaultAt BadCharacter p)
 by_word go p t (Some r) = behind go p t r.1 (word_meaning r.0 (take r.1 t))
 
--- with at most so many words
+-- with at most the given number of words
 abbrev lexed : ℕ → Place → List ℕ → Option LexOutcome
 lexed zero p t = None
 lexed (suc n) p [] = Some (GivesTokens (record { kind = End; place = p } ∷ []))

@@ -1,6 +1,6 @@
 -- A text gives something: its tokens, or its first fault.
 use Rattle.std.proofs.Common.{◌≡◌, ℕ, zero, suc, ◌<◌, ◌≤◌, List, [], ◌∷◌, length, take, drop, true, Option, Some, None, ◌⊎◌, inl, inr, refl, subst, arith, length-drop}
-use Rattle.text_place.specs.declared.fault.Place.{Place}
+use Rattle.plain_text.specs.declared.place.Place.{Place}
 use Rattle.text_place.specs.declared.fault.FaultKind.{FaultKind}
 use Rattle.text_place.specs.declared.fault.FaultKind.TheVariants.{BadCharacter}
 use Rattle.scad_lexer.specs.declared.token.Token.{Token}

@@ -1,11 +1,11 @@
 -- What a word of a source stands for, and the tokens of a whole source.
-use Rattle.std.specs.Prelude.{◌≡◌, ℕ, suc, ◌+◌, ◌-◌, ◌*◌, ◌≤◌, List, [], ◌∷◌, ◌++◌, length, take, drop, Bool, true, false, not, cond, ◌&&◌, nat_eq, Option, Some, None, codes}
+use Rattle.std.specs.Prelude.{◌≡◌, ℕ, suc, ◌+◌, ◌-◌, ◌*◌, ◌≤◌, nat_le, List, [], ◌∷◌, ◌++◌, length, take, drop, Bool, true, false, not, cond, ◌&&◌, nat_eq, Option, Some, None, codes}
 use Rattle.std.specs.Str.{bytes_eq}
 use Rattle.scad_lexer.specs.declared.token.Reserved.{Reserved}
 use Rattle.scad_lexer.specs.declared.token.Reserved.TheVariants.{Module, Function, If, Else, For, IntersectionFor, True, False, Undef, Use, Include, Let, Each}
 use Rattle.std.specs.Prelude.{Result, Ok, Err, ◌⊎◌, ◌≢◌, nat_lt}
 use Rattle.std.specs.Global.{Vec}
-use Rattle.text_place.specs.declared.fault.Place.{Place}
+use Rattle.plain_text.specs.declared.place.Place.{Place}
 use Rattle.text_place.specs.declared.fault.Stop.{Stop}
 use Rattle.text_place.specs.declared.fault.Stop.TheVariants.{Fault, NoMemory}
 use Rattle.text_place.specs.declared.fault.FaultKind.{FaultKind}
@@ -15,11 +15,10 @@ use Rattle.scad_lexer.specs.declared.token.TokenKind.{TokenKind}
 use Rattle.scad_lexer.specs.declared.token.TokenKind.TheVariants.{Numeral as NumeralToken, Name as NameToken, Special as SpecialToken, Text as TextToken, Reserved as ReservedToken, Symbol as SymbolToken, End}
 use Rattle.scad_lexer.specs.declared.word.Word.{Word}
 use Rattle.scad_lexer.specs.declared.word.Word.TheVariants.{Blank, UnclosedComment, Name, Special, Numeral, NumeralAndLetter, Text, UnclosedText, Symbol}
-use Rattle.scad_lexer.specs.declared.class.ByteClass.TheVariants.{Printable}
 use Rattle.scad_lexer.specs.declared.meaning.WordMeaning.{WordMeaning}
 use Rattle.scad_lexer.specs.declared.meaning.WordMeaning.TheVariants.{NoToken, OneToken, BadWord}
-use Rattle.scad_lexer.specs.Words.{is_of_class, is_digit_byte, run_of, all_bytes, IsLongest, HasNoWord}
-use Rattle.text_place.specs.Decimals.{least_too_large}
+use Rattle.scad_lexer.specs.Words.{is_digit_byte, run_of, all_bytes, IsLongest, HasNoWord}
+use Rattle.plain_text.specs.Decimals.{least_too_large}
 
 -- the reserved name that these bytes are
 abbrev pub reserved_of : List ℕ → Option Reserved
@@ -36,10 +35,6 @@ reserved_of bytes =
 abbrev pub name_or : List ℕ → Option Reserved → TokenKind
 name_or bytes None = NameToken bytes
 name_or bytes (Some reserved) = ReservedToken reserved
-
--- a name, or a reserved one
-abbrev pub name_token : List ℕ → TokenKind
-name_token bytes = name_or bytes (reserved_of bytes)
 
 -- the number that decimal digits write, behind those that wrote a value
 abbrev pub decimal_from : ℕ → List ℕ → ℕ
@@ -60,15 +55,10 @@ numeral_or_too_large n = cond (nat_lt n least_too_large) (OneToken (NumeralToken
 abbrev pub numeral_meaning : List ℕ → WordMeaning
 numeral_meaning bytes = cond (zero_fraction (drop (run_of is_digit_byte bytes) bytes)) (numeral_or_too_large (decimal_from 0 (take (run_of is_digit_byte bytes) bytes))) (BadWord NotWhole 0)
 
--- the fault that a numeral has, or else that of the letter behind so many bytes
+-- the fault of a numeral, or else that of the letter behind the given number of bytes
 abbrev pub or_letter : WordMeaning → ℕ → WordMeaning
 or_letter (BadWord kind n) at = BadWord kind n
-or_letter NoToken at = BadWord BadCharacter at
-or_letter (OneToken kind) at = BadWord BadCharacter at
-
--- a numeral with a letter behind it: the numeral's fault, or that of the letter
-abbrev pub letter_after_numeral : List ℕ → WordMeaning
-letter_after_numeral bytes = or_letter (numeral_meaning (take (length bytes - 1) bytes)) (length bytes - 1)
+or_letter sound at = BadWord BadCharacter at
 
 -- the byte that an escape stands for: `\"`, `\\`, `\n`, `\t`, `\r`
 abbrev pub escape_of : ℕ → Option ℕ
@@ -80,7 +70,7 @@ abbrev pub escape_at : List ℕ → Option ℕ
 escape_at [] = None
 escape_at (byte ∷ bytes) = escape_of byte
 
--- with a byte in front that was written in so many bytes
+-- with a byte in front that was written in the given number of bytes
 abbrev pub with_byte : ℕ → ℕ → Result (List ℕ) ℕ → Result (List ℕ) ℕ
 with_byte byte n (Ok bytes) = Ok (byte ∷ bytes)
 with_byte byte n (Err at) = Err (n + at)
@@ -94,7 +84,7 @@ with_escape (Some byte) rest = with_byte byte 2 rest
 unfoldable mutual
   pub bytes_written : List ℕ → Result (List ℕ) ℕ
   bytes_written [] = Ok []
-  bytes_written (byte ∷ bytes) = cond (nat_eq byte 92) (bytes_after_backslash bytes) (cond (is_of_class Printable byte) (with_byte byte 1 (bytes_written bytes)) (Err 0))
+  bytes_written (byte ∷ bytes) = cond (nat_eq byte 92) (bytes_after_backslash bytes) (cond (nat_le 32 byte && nat_le byte 126) (with_byte byte 1 (bytes_written bytes)) (Err 0))
 
   -- the same behind a backslash
   pub bytes_after_backslash : List ℕ → Result (List ℕ) ℕ
@@ -105,24 +95,20 @@ unfoldable mutual
 abbrev pub without_quotes : List ℕ → List ℕ
 without_quotes bytes = take (length bytes - 1 - 1) (drop 1 bytes)
 
--- the token of a text's bytes, or a fault behind its quote and so many bytes
+-- the token of a text, or a fault behind its quote and the given number of bytes
 abbrev pub text_from : Result (List ℕ) ℕ → WordMeaning
 text_from (Ok bytes) = OneToken (TextToken bytes)
 text_from (Err at) = BadWord BadCharacter (1 + at)
-
--- what a text with both its quotes stands for
-abbrev pub text_meaning : List ℕ → WordMeaning
-text_meaning bytes = text_from (bytes_written (without_quotes bytes))
 
 -- what a word stands for
 abbrev pub word_meaning : Word → List ℕ → WordMeaning
 word_meaning Blank bytes = NoToken
 word_meaning UnclosedComment bytes = BadWord OpenComment 0
-word_meaning Name bytes = OneToken (name_token bytes)
+word_meaning Name bytes = OneToken (name_or bytes (reserved_of bytes))
 word_meaning Special bytes = OneToken (SpecialToken (drop 1 bytes))
 word_meaning Numeral bytes = numeral_meaning bytes
-word_meaning NumeralAndLetter bytes = letter_after_numeral bytes
-word_meaning Text bytes = text_meaning bytes
+word_meaning NumeralAndLetter bytes = or_letter (numeral_meaning (take (length bytes - 1) bytes)) (length bytes - 1)
+word_meaning Text bytes = text_from (bytes_written (without_quotes bytes))
 word_meaning UnclosedText bytes = BadWord OpenText 0
 word_meaning (Symbol symbol) bytes = OneToken (SymbolToken symbol)
 
@@ -145,14 +131,12 @@ tokens_in_front tokens (FaultAt kind place) = FaultAt kind place
 -- the token that a word makes at a place, if it makes one
 abbrev pub tokens_at : Place → WordMeaning → List Token
 tokens_at at (OneToken kind) = record { kind = kind; place = at } ∷ []
-tokens_at at NoToken = []
-tokens_at at (BadWord kind n) = []
+tokens_at at meaning = []
 
 -- that a word has no fault
 abbrev pub IsFaultless : WordMeaning → Type 0
 IsFaultless (BadWord kind n) = ⊥
-IsFaultless NoToken = Unit {0}
-IsFaultless (OneToken kind) = Unit {0}
+IsFaultless meaning = Unit {0}
 
 -- the end of the source
 abbrev pub IsEnd : Place → List ℕ → LexOutcome → Type 0
@@ -206,7 +190,7 @@ IsLexStop text stop = IsLexStopFrom (record { line = 1; column = 1 }) text stop
 abbrev pub IsPlaceOfByteFrom : Place → List ℕ → Place → Type 0
 IsPlaceOfByteFrom start text at = (front : List ℕ) × (byte : ℕ) × (rest : List ℕ) × (text ≡ front ++ byte ∷ rest) × (at ≡ place_after start front)
 
--- a fault stands at a byte of the source; want of memory has no place
+-- a fault stands at a byte of the source; running out of memory has no place
 abbrev pub StandsAtByte : List ℕ → Stop → Type 0
 StandsAtByte text (Fault fault) = IsPlaceOfByteFrom (record { line = 1; column = 1 }) text fault.place
 StandsAtByte text NoMemory = Unit {0}
@@ -234,13 +218,8 @@ IsFaultWithin n (OneToken kind) = Unit {0}
 
 -- the end of a source
 abbrev pub is_end : TokenKind → Bool
-is_end (NumeralToken n) = false
-is_end (NameToken bytes) = false
-is_end (SpecialToken bytes) = false
-is_end (TextToken bytes) = false
-is_end (ReservedToken reserved) = false
-is_end (SymbolToken symbol) = false
 is_end End = true
+is_end kind = false
 
 -- the last token is an end, and no other is
 abbrev pub ends_once : List Token → Bool

@@ -66,7 +66,7 @@ unfoldable pub in_exponent : List ℕ → Option Word
 in_exponent [] = Some Numeral
 in_exponent (byte ∷ bytes) = cond (is_digit_byte byte) (in_exponent bytes) (cond (is_letter_byte byte) (where_last NumeralAndLetter bytes) None)
 
--- after the sign of an exponent
+-- after the sign of an exponent, `+` or `-`
 abbrev pub after_sign : List ℕ → Option Word
 after_sign [] = None
 after_sign (byte ∷ bytes) = cond (is_digit_byte byte) (in_exponent bytes) None
@@ -74,12 +74,12 @@ after_sign (byte ∷ bytes) = cond (is_digit_byte byte) (in_exponent bytes) None
 -- after `e` or `E`, which is a letter after the numeral where no digits follow
 abbrev pub after_e : List ℕ → Option Word
 after_e [] = Some NumeralAndLetter
-after_e (byte ∷ bytes) = cond (is_digit_byte byte) (in_exponent bytes) (cond (is_of_class Sign byte) (after_sign bytes) None)
+after_e (byte ∷ bytes) = cond (is_digit_byte byte) (in_exponent bytes) (cond (nat_eq byte 43 || nat_eq byte 45) (after_sign bytes) None)
 
 -- after the last digit of the whole part or the fraction
 abbrev pub number_end : List ℕ → Option Word
 number_end [] = Some Numeral
-number_end (byte ∷ bytes) = cond (is_of_class Exponent byte) (after_e bytes) (cond (is_letter_byte byte) (where_last NumeralAndLetter bytes) None)
+number_end (byte ∷ bytes) = cond (nat_eq byte 101 || nat_eq byte 69) (after_e bytes) (cond (is_letter_byte byte) (where_last NumeralAndLetter bytes) None)
 
 -- after the point of a numeral, or a digit of its fraction
 unfoldable pub in_fraction : List ℕ → Option Word
@@ -121,7 +121,7 @@ unfoldable mutual
 -- after `/`: a symbol, or one of the two comments
 abbrev pub after_slash : List ℕ → Option Word
 after_slash [] = Some (SymbolWord Divide)
-after_slash (byte ∷ bytes) = cond (nat_eq byte 47) (word_where (all_bytes (is_of_class InLine) bytes) Blank) (cond (nat_eq byte 42) (in_comment bytes) None)
+after_slash (byte ∷ bytes) = cond (nat_eq byte 47) (word_where (all_bytes (λ c. not (nat_eq c 10)) bytes) Blank) (cond (nat_eq byte 42) (in_comment bytes) None)
 
 -- after `$`
 abbrev pub after_dollar : List ℕ → Option Word
@@ -195,7 +195,7 @@ abbrev pub with_bytes : ℕ → Option Word → Option (Word × ℕ)
 with_bytes n None = None
 with_bytes n (Some word) = Some (word, n)
 
--- the same word with so many bytes before it
+-- the same word with the given number of bytes before it
 abbrev pub more_bytes : ℕ → Option (Word × ℕ) → Option (Word × ℕ)
 more_bytes n None = None
 more_bytes n (Some found) = Some (found.0, n + found.1)

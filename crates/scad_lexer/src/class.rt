@@ -1,3 +1,5 @@
+//! Classes of bytes.
+
 ghost use Rattle.std.specs.Prelude.{◌≡◌, ◌≤◌, IsTrue, length};
 ghost use Rattle.scad_lexer.specs.Words.{is_of_class, run_of, begins_with};
 

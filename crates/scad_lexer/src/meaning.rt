@@ -1,7 +1,9 @@
-ghost use Rattle.std.specs.Prelude.{◌≡◌, ◌-◌, ◌^◌, ◌<◌, ◌≤◌, length, IfOk, IfErr, IfSome, IfNone, MatchOption, drop, nat_eq, MatchResult, Ok, Err};
+//! What a word stands for: no token, a token, or a fault.
+
+ghost use Rattle.std.specs.Prelude.{◌≡◌, ◌-◌, ◌^◌, ◌<◌, ◌≤◌, length, IfOk, IfErr, IfSome, IfNone, MatchOption, take, drop, nat_eq, MatchResult, Ok, Err};
 ghost use Rattle.std.specs.Str.{bytes_eq};
 ghost use Rattle.scad_lexer.specs.Words.{all_bytes};
-ghost use Rattle.scad_lexer.specs.Tokens.{reserved_of, escape_at, with_byte, zero_fraction, decimal_from, numeral_meaning, letter_after_numeral, bytes_written, without_quotes, text_meaning, word_meaning, name_token, IsFaultWithin};
+ghost use Rattle.scad_lexer.specs.Tokens.{reserved_of, escape_at, with_byte, zero_fraction, decimal_from, numeral_meaning, or_letter, bytes_written, without_quotes, text_from, word_meaning, name_or, IsFaultWithin};
 
 use crate::class::ByteClass;
 use crate::token::{Reserved, TokenKind};
@@ -42,7 +44,7 @@ pub fn meant(alloc: Global, word: Word, bytes: &[u8]) -> Result<WordMeaning, NoM
 }
 
 fn name(alloc: Global, bytes: &[u8]) -> Result<TokenKind, NoMemory>
-    ensures { IfOk result (λ k. k ≡ name_token bytes.now) }
+    ensures { IfOk result (λ k. k ≡ name_or bytes.now (reserved_of bytes.now)) }
 {
     match reserved(bytes) {
         Some(reserved) => Ok(TokenKind::Reserved(reserved)),
@@ -133,7 +135,7 @@ fn number(digits: &[u8]) -> Option<Numeral>
 // The fault of a numeral with a letter behind it.
 fn numeral_and_letter(bytes: &[u8]) -> WordMeaning
     requires { 1 ≤ length bytes.now }
-    ensures means { result ≡ letter_after_numeral bytes.now }
+    ensures means { result ≡ or_letter (numeral_meaning (take (length bytes.now - 1) bytes.now)) (length bytes.now - 1) }
     ensures within { IsFaultWithin (length bytes.now) result }
 {
     let letter = bytes.len() - 1;
@@ -145,7 +147,7 @@ fn numeral_and_letter(bytes: &[u8]) -> WordMeaning
 
 // What a text with both its quotes stands for.
 fn text(alloc: Global, bytes: &[u8]) -> Result<WordMeaning, NoMemory>
-    ensures means { IfOk result (λ m. m ≡ text_meaning bytes.now) }
+    ensures means { IfOk result (λ m. m ≡ text_from (bytes_written (without_quotes bytes.now))) }
     ensures within { IfOk result (λ m. IsFaultWithin (length bytes.now) m) }
 {
     match decode(alloc, without_quotes(bytes))? {

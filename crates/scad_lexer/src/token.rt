@@ -1,3 +1,5 @@
+//! Tokens.
+
 use text_place::{CompactBytes, Numeral, Place};
 
 /// A token of a source.

@@ -1,3 +1,5 @@
+//! The lexer: from the bytes of a source to its tokens, or to its first fault.
+
 ghost use Rattle.std.specs.Prelude.{◌≡◌, ℕ, List, true, ◌+◌, ◌-◌, ◌^◌, ◌<◌, ◌≤◌, ◌++◌, ◌∷◌, [], ◌⊎◌, length, IfOk, IfErr, OnOk};
 ghost use Rattle.scad_lexer.specs.Words.{IsLongest};
 ghost use Rattle.scad_lexer.specs.Tokens.{LexOutcome, GivesTokens, FaultAt, Lexes, Agrees, IsLexStop, IsLexStopFrom, StandsAtByte, place_after, AppendsNext, ends_once};

@@ -1,3 +1,5 @@
+//! The kinds of words that the scanner tells apart.
+
 use crate::token::Symbol;
 
 /// What a word of a source is: a blank or comment, a token, or the start of a fault.

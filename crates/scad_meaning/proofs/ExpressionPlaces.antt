@@ -1,7 +1,7 @@
 -- The faults of expressions stand at places of the text: by one lemma for each equation of their meaning.
 use Rattle.std.proofs.Common.{ℕ, zero, suc, ◌+◌, Bool, true, false, cond, nat_lt, List, [], ◌∷◌, ◌++◌, length, Option, Some, None, Ok, if◌then◌else◌}
 use Rattle.std.specs.Prelude.{IfSome, flat_map}
-use Rattle.text_place.specs.declared.fault.Place.{Place}
+use Rattle.plain_text.specs.declared.place.Place.{Place}
 use Rattle.text_place.specs.declared.fault.FaultKind.TheVariants.{UnknownName, BadArgument, TooManyTurns, NotInProfile}
 use Rattle.scad_ast.specs.Terms.{Term, NumberTerm, TextTerm, TruthTerm, UndefTerm, ChildCountTerm, SpecialTerm, NameTerm, CallTerm, ParenTerm, ListTerm, RangeTerm, SteppedRangeTerm, PostfixTerm, UnaryTerm, ChainTerm, ChoiceTerm, Terms, no_terms, and_term, ArgTerms, no_args, and_named, and_special, and_positional, NamedTerm, SpecialArgTerm, PositionalTerm, SuffixTerms, no_suffixes, and_index, and_member, LinkTerms, no_links, and_link, ParamTerm, PlainTerm, DefaultTerm, place_of_term}
 use Rattle.scad_ast.specs.Places.{places_of_term, places_of_terms, places_of_args, places_of_suffixes, places_of_links, places_of_param}
@@ -15,7 +15,7 @@ use Rattle.scad_builtin.specs.Builtins.{builtin_of, takes_count, builtin_value}
 use Rattle.scad_func.specs.Limits.{most_turns}
 use Rattle.scad_func.specs.Meaning.{Outcome, Gives, Faults, then_with, outcome_of_answer, Env, InnerScope, no_activation, visible_variable, visible_function, count_elements, EvaluatesExpression, ExpressionContext, value_at_next_depth, expression_with_calls_left, in_scope, with_more_bindings, each_value, with_first_term, only_values, count_of_terms, BoundArguments, Arguments, each_argument, parameter_value, each_parameter, with_pairs, function_value, function_call_value, built_in_call_value, call_value, value_here, each_suffix, each_link, count_elements_if, value_within}
 use Rattle.scad_value.specs.Answers.{range_of, stepped_range_of, member_of, wants_right}
-use Rattle.scad_meaning.proofs.HeldPlaces.{every_joined, if_keeps, Whatever, Held, first_held, rest_held, FunctionHeld, ScopeHeld, function_found, Keeps, skip_keeps, option_keeps, some_keeps, turn_keeps, call_keeps, answered_keeps}
+use Rattle.scad_meaning.proofs.lemmas.HeldPlaces.{every_joined, if_keeps, Whatever, Held, first_held, rest_held, FunctionHeld, ScopeHeld, function_found, Keeps, skip_keeps, option_keeps, some_keeps, turn_keeps, call_keeps, answered_keeps}
 
 module _ (P : Place → Type 0) where
   place_held : (e : Term) → Held P (places_of_term e) → P (place_of_term e)

@@ -8,11 +8,11 @@ use Rattle.primitives.specs.Spanning.{IsTriangle}
 use Rattle.primitives.specs.declared.spanning.Triangle.{Triangle}
 use Rattle.scad_hull.specs.Hulls.{points_in_order, numbers_between, AreOnOnePlane}
 use Rattle.scad_hull.specs.Steps.{AreNumberedPoints}
-use Rattle.scad_hull.proofs.Lines.{plane}
-use Rattle.scad_hull.proofs.Loops.{flat_by_lines, flat_by_plane, numbered_by, solid_by_plane}
+use Rattle.scad_hull.proofs.lemmas.Lines.{plane}
+use Rattle.scad_hull.proofs.lemmas.Loops.{flat_by_lines, flat_by_plane, numbered_by, solid_by_plane}
 use Rattle.scad_design.specs.Designs.{DesignTree, empty, a_leaf, joined_designs}
-use Rattle.scad_design.proofs.Deciding.{Decided, decided_all, decided_both, decided_same_ℤ, at_most_or_more}
-use Rattle.scad_design.proofs.SomePlacing.{decided_safe}
+use Rattle.scad_design.proofs.lemmas.Deciding.{Decided, decided_all, decided_both, decided_same_ℤ, at_most_or_more}
+use Rattle.scad_design.proofs.lemmas.SomePlacing.{decided_safe}
 use Rattle.scad_meaning.specs.Hulls.{is_union, points_of, StaySafe, HasHull, IsHullFault}
 use Rattle.scad_meaning.proofs.Triangles.{decided_point_range, decided_triangle}
 

@@ -2,7 +2,7 @@
 use Rattle.std.proofs.Common.{◌≡◌, ℕ, ◌+◌, ◌*◌, ◌≤◌, ◌<◌, ◌^◌, List, [], refl, sym, subst}
 use Rattle.std.specs.Prelude.{All}
 use Rattle.std.specs.List.{sum_by}
-use Rattle.text_place.specs.declared.fault.Place.{Place}
+use Rattle.plain_text.specs.declared.place.Place.{Place}
 use Rattle.plane_predicate.specs.declared.unit.Unit.{Unit as LengthUnit}
 use Rattle.int_transform.specs.declared.affine.Affine.{Affine}
 use Rattle.primitives.specs.Shapes.{IsShape}
@@ -18,10 +18,10 @@ use Rattle.scad_design.specs.Trees.{leaf_count, tree_size, IsPlacedAs, IsSoundDe
 use Rattle.scad_meaning.specs.Verdicts.{Judge, IsRightJudge}
 use Rattle.scad_meaning.specs.Meaning.{design_of}
 use Rattle.scad_meaning.specs.Sources.{a_tree, IsMeaning, IsMeaningOf, IsMeaningOfDesign}
-use Rattle.scad_meaning.proofs.HeldPlaces.{Keeps}
-use Rattle.scad_meaning.proofs.InstancePlaces.{DesignHeld}
+use Rattle.scad_meaning.proofs.lemmas.HeldPlaces.{Keeps}
+use Rattle.scad_meaning.proofs.lemmas.InstancePlaces.{DesignHeld}
 use Rattle.scad_meaning.proofs.Parts.{design_small}
-use Rattle.scad_meaning.proofs.ProgramPlaces.{program_keeps}
+use Rattle.scad_meaning.proofs.lemmas.ProgramPlaces.{program_keeps}
 use Rattle.scad_meaning.proofs.SomeMeaning.{sound}
 
 same_tree : (f g : Tree) → a_tree f ≡ a_tree g → f ≡ g

@@ -1,7 +1,7 @@
 -- Worked rows of the meaning of programs, which compute. Each comment is the source whose syntax stands below it.
 use Rattle.std.proofs.Common.{◌≡◌, ℕ, ℤ, Bool, true, false, List, [], ◌∷◌, map, None, refl}
 use Rattle.std.specs.Prelude.{codes}
-use Rattle.text_place.specs.declared.fault.Place.{Place}
+use Rattle.plain_text.specs.declared.place.Place.{Place}
 use Rattle.text_place.specs.declared.fault.FaultKind.TheVariants.{TooDeep, UnknownName, RangeOrder, UnknownModule, NotInProfile, NotQuarter, WrongDimension, AssertFailed, TypeMismatch, Singular, BadArgument, TooManyTurns, TooManyParts}
 use Rattle.plane_predicate.specs.declared.unit.Unit.TheVariants.{Whole}
 use Rattle.plane_predicate.specs.Space.{point_at}
@@ -44,7 +44,7 @@ abbrev turns_in : Outcome DesignTree → ℕ
 turns_in (Gives turns design) = turns
 turns_in (Faults kind at) = 0
 
--- from so many turns and leaves on
+-- from the given number of turns and leaves on
 abbrev pub is_given : {A : Type 0} → Outcome A → Bool
 is_given (Gives turns x) = true
 is_given (Faults kind at) = false
@@ -382,9 +382,8 @@ outer_mark : seen_in (meaning (and_statement (InstanceStatement (AnInstance (at 
 unfolding design_of design_within value_within
 outer_mark = refl
 
--- module cube(n) { translate([n,0,0]) children(); } module sphere() { children(); } sphere() square_box(); module square_box() { color("red") render() polyhedron([[0,0,0]],[[0]]); }
--- is as
--- polyhedron([[0,0,0]],[[0]]);
+-- module cube(n) { translate([n,0,0]) children(); } module sphere() { children(); } sphere() square_box(); module square_box()
+-- { color("red") render() polyhedron([[0,0,0]],[[0]]); } is as polyhedron([[0,0,0]],[[0]]);
 own_module_first : seen_in (meaning (and_statement (ModuleTerm (at 1 1) (codes "cube") (at 1 8) ((PlainTerm (at 1 13) (codes "n")) ∷ []) (BlockBody (at 1 16) (and_statement (InstanceStatement (AnInstance (at 1 18) ([]) (ModuleCallTerm (at 1 18) (codes "translate") ((PositionalTerm (ListTerm (at 1 28) (and_term (NameTerm (at 1 29) (codes "n")) (and_term (NumberTerm (at 1 31) 0) (and_term (NumberTerm (at 1 33) 0) no_terms))))) ∷ []) (InstanceBody (AnInstance (at 1 37) ([]) (ModuleCallTerm (at 1 37) (codes "children") ([]) (EmptyBody (at 1 47)))))))) no_statements))) (and_statement (ModuleTerm (at 1 51) (codes "sphere") (at 1 58) ([]) (BlockBody (at 1 67) (and_statement (InstanceStatement (AnInstance (at 1 69) ([]) (ModuleCallTerm (at 1 69) (codes "children") ([]) (EmptyBody (at 1 79))))) no_statements))) (and_statement (InstanceStatement (AnInstance (at 1 83) ([]) (ModuleCallTerm (at 1 83) (codes "sphere") ([]) (InstanceBody (AnInstance (at 1 92) ([]) (ModuleCallTerm (at 1 92) (codes "square_box") ([]) (EmptyBody (at 1 104)))))))) (and_statement (ModuleTerm (at 1 106) (codes "square_box") (at 1 113) ([]) (BlockBody (at 1 126) (and_statement (InstanceStatement (AnInstance (at 1 128) ([]) (ModuleCallTerm (at 1 128) (codes "color") ((PositionalTerm (TextTerm (at 1 134) (codes "red"))) ∷ []) (InstanceBody (AnInstance (at 1 141) ([]) (ModuleCallTerm (at 1 141) (codes "render") ([]) (InstanceBody (AnInstance (at 1 150) ([]) (ModuleCallTerm (at 1 150) (codes "polyhedron") ((PositionalTerm (ListTerm (at 1 161) (and_term (ListTerm (at 1 162) (and_term (NumberTerm (at 1 163) 0) (and_term (NumberTerm (at 1 165) 0) (and_term (NumberTerm (at 1 167) 0) no_terms)))) no_terms))) ∷ (PositionalTerm (ListTerm (at 1 171) (and_term (ListTerm (at 1 172) (and_term (NumberTerm (at 1 173) 0) no_terms)) no_terms))) ∷ []) (EmptyBody (at 1 177))))))))))) no_statements))) no_statements))))) ≡ seen_in (meaning (and_statement (InstanceStatement (AnInstance (at 1 1) ([]) (ModuleCallTerm (at 1 1) (codes "polyhedron") ((PositionalTerm (ListTerm (at 1 12) (and_term (ListTerm (at 1 13) (and_term (NumberTerm (at 1 14) 0) (and_term (NumberTerm (at 1 16) 0) (and_term (NumberTerm (at 1 18) 0) no_terms)))) no_terms))) ∷ (PositionalTerm (ListTerm (at 1 22) (and_term (ListTerm (at 1 23) (and_term (NumberTerm (at 1 24) 0) no_terms)) no_terms))) ∷ []) (EmptyBody (at 1 28))))) no_statements))
 unfolding design_of design_within value_within
 own_module_first = refl

@@ -1,7 +1,7 @@
 -- A program has a meaning: its design has a placing, and whatever is right about shapes says the same.
 use Rattle.std.proofs.Common.{◌≡◌, List, [], refl, subst}
 use Rattle.std.proofs.Math.Path.{fun_ext}
-use Rattle.text_place.specs.declared.fault.Place.{Place}
+use Rattle.plain_text.specs.declared.place.Place.{Place}
 use Rattle.plane_predicate.specs.declared.unit.Unit.{Unit as LengthUnit}
 use Rattle.plane_predicate.specs.Space.{Coefficients}
 use Rattle.primitives.specs.Shapes.{IsShape}
@@ -14,10 +14,10 @@ use Rattle.scad_design.specs.Trees.{IsSoundDesign}
 use Rattle.scad_meaning.specs.Verdicts.{Judge, IsRightJudge}
 use Rattle.scad_meaning.specs.Meaning.{design_of}
 use Rattle.scad_meaning.specs.Sources.{Meaning, a_tree, a_fault, IsMeaning, IsMeaningOf, IsMeaningOfDesign}
-use Rattle.scad_meaning.proofs.HeldPlaces.{Keeps}
-use Rattle.scad_meaning.proofs.InstancePlaces.{DesignHeld}
-use Rattle.scad_meaning.proofs.ProgramPlaces.{program_keeps}
-use Rattle.scad_meaning.proofs.Verdicts.{one_solid_verdict, one_flat_verdict, one_height_verdict, one_hull_verdict}
+use Rattle.scad_meaning.proofs.lemmas.HeldPlaces.{Keeps}
+use Rattle.scad_meaning.proofs.lemmas.InstancePlaces.{DesignHeld}
+use Rattle.scad_meaning.proofs.lemmas.ProgramPlaces.{program_keeps}
+use Rattle.scad_meaning.proofs.lemmas.Verdicts.{one_solid_verdict, one_flat_verdict, one_height_verdict, one_hull_verdict}
 
 -- two judges that are always right are one
 same_judge : (j k : Judge) → IsRightJudge j → IsRightJudge k → j ≡ k

@@ -2,7 +2,7 @@
 use Rattle.std.proofs.Common.{ℕ, ◌<◌, ℤ, pos, unsigned_abs, List, length, get_or}
 use Rattle.plane_predicate.specs.Space.{Coordinates, plane_of_points, AreCollinear}
 use Rattle.primitives.specs.Shapes.{mesh_point, HasTriangle, IsPointInRange}
-use Rattle.scad_design.proofs.Deciding.{Decided, decided_by, decided_both, decided_not, decided_at_most, decided_same_ℤ, decided_some_below}
+use Rattle.scad_design.proofs.lemmas.Deciding.{Decided, decided_by, decided_both, decided_not, decided_at_most, decided_same_ℤ, decided_some_below}
 
 pub decided_point_range : (p : Coordinates) → Decided (IsPointInRange p)
 decided_point_range p =

@@ -9,7 +9,7 @@ count_of_range from (pos zero) upto = zero
 count_of_range from (pos (suc n)) upto = if int_lt upto from then zero else suc (unsigned_abs (upto -ℤ from) / suc n)
 count_of_range from (negsuc n) upto = if int_lt from upto then zero else suc (unsigned_abs (from -ℤ upto) / suc n)
 
--- so many numbers from one on, by a step
+-- the given number of numbers from one on, by a step
 abbrev pub numbers_by : ℕ → ℤ → ℤ → List ℤ
 numbers_by zero from step = []
 numbers_by (suc count) from step = from ∷ numbers_by count (from +ℤ step) step

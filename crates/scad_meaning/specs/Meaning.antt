@@ -1,7 +1,7 @@
 -- The meaning of instances: equations over the syntax and lists of pairs, as those of expressions are. The evaluator of a
 -- depth and the context of an instance go in; the turns and the leaves so far go through.
 use Rattle.std.specs.Prelude.{ℕ, zero, suc, ◌+◌, pos, Bool, true, false, List, [], ◌∷◌, ◌++◌, length, Option, Some, None, is_some, Ok, Err, nat_lt, nat_eq, ◌&&◌, codes, if◌then◌else◌}
-use Rattle.text_place.specs.declared.fault.Place.{Place}
+use Rattle.plain_text.specs.declared.place.Place.{Place}
 use Rattle.text_place.specs.declared.fault.FaultKind.TheVariants.{TypeMismatch, UnknownModule, BadArgument, TooDeep, NotInProfile, WrongDimension, TooManyParts}
 use Rattle.csg_tree.specs.declared.op.Op.{Op}
 use Rattle.csg_tree.specs.declared.op.Op.TheVariants.{Union, Intersection}
@@ -44,7 +44,7 @@ inside_scope here env = record { calls_left = here.calls_left; env = env; bindin
 abbrev pub with_bindings : Context → Pairs Val → Context
 with_bindings here bindings = record { calls_left = here.calls_left; env = here.env; bindings = bindings; inside = here.inside; under_root = here.under_root }
 
--- the same context with so many calls left
+-- the same context with the given number of calls left
 abbrev pub with_calls_left : Context → ℕ → Context
 with_calls_left here calls = record { calls_left = calls; env = here.env; bindings = here.bindings; inside = here.inside; under_root = here.under_root }
 
@@ -56,7 +56,7 @@ inside_root here = record { calls_left = here.calls_left; env = here.env; bindin
 abbrev pub inside_extrusion : Context → Extrusion → Context
 inside_extrusion here through = record { calls_left = here.calls_left; env = here.env; bindings = here.bindings; inside = Some through; under_root = here.under_root }
 
--- where an expression of an instance stands, with so many evaluations in one another left
+-- where an expression of an instance stands, with the given number of evaluations in one another left
 abbrev pub expression_context : ℕ → Context → ExpressionContext
 expression_context evaluations here = record { at_next_depth = value_within evaluations; calls_left = here.calls_left; env = here.env; bindings = here.bindings }
 
@@ -315,8 +315,8 @@ chosen_children evaluator at chosen here turns leaves =
 abbrev pub turn_after_call : Place → Bool → ℕ → InstanceDesign → Outcome InstanceDesign
 turn_after_call at idle turns result = if idle then turn at turns (λ turns. Gives turns result) else Gives turns result
 
--- A call that began after so many turns and leaves, with the turn that it counts when it ends: one where nothing was counted
--- and no leaf was evaluated since, so that no way through calls alone goes on uncounted
+-- A call that began after the given number of turns and leaves, with the turn that it counts when it ends: one where nothing
+-- was counted and no leaf was evaluated since, so that no way through calls alone goes on uncounted
 abbrev pub counted_call : Place → ℕ → ℕ → Outcome InstanceDesign → Outcome InstanceDesign
 counted_call at turns leaves call =
     then_with call (λ after result. turn_after_call at (nat_eq after turns && nat_eq result.leaves leaves) after result)
@@ -421,14 +421,14 @@ instance_design evaluator here instance turns leaves =
     else root_design evaluator here (core_of_instance instance) turns leaves)
     else core_design evaluator here (core_of_instance instance) turns leaves
 
--- with so many evaluations in one another left
+-- with the given number of evaluations in one another left
 unfoldable pub design_within : LengthUnit → Judge → ℕ → EvaluatesInstance
 design_within unit judge zero here instance turns leaves = Faults TooDeep (place_of_instance instance)
 design_within unit judge (suc evaluations) here instance turns leaves =
     instance_design (record { unit = unit; judge = judge; evaluations = evaluations; at_next_depth = design_within unit judge evaluations })
     here instance turns leaves
 
--- the evaluator with so many evaluations in one another left
+-- the evaluator with the given number of evaluations in one another left
 abbrev pub evaluator_with : LengthUnit → Judge → ℕ → Evaluator
 evaluator_with unit judge evaluations =
     record { unit = unit; judge = judge; evaluations = evaluations; at_next_depth = design_within unit judge evaluations }

@@ -1,6 +1,6 @@
 -- What a program means: the tree of its design in world position, or its first fault.
 use Rattle.std.specs.Prelude.{◌≡◌, List, []}
-use Rattle.text_place.specs.declared.fault.Place.{Place}
+use Rattle.plain_text.specs.declared.place.Place.{Place}
 use Rattle.text_place.specs.declared.fault.FaultKind.{FaultKind}
 use Rattle.plane_predicate.specs.declared.unit.Unit.{Unit as LengthUnit}
 use Rattle.csg_tree.specs.HalfSpaceTrees.{Tree}
@@ -35,7 +35,7 @@ abbrev pub IsMeaning : LengthUnit → List StatementTerm → Meaning → Type 0
 IsMeaning unit program meaning =
     (judge : Judge) → IsRightJudge judge → IsMeaningOfDesign (design_of unit judge first_bindings (statements_from program)) meaning
 
--- a stop of evaluation: the program's first fault, or want of memory
+-- a stop of evaluation: the program's first fault, or that memory ran out
 abbrev pub IsMeaningStop : LengthUnit → List StatementTerm → Stop → Type 0
 IsMeaningStop unit program (Fault fault) = IsMeaning unit program (a_fault fault.kind fault.place)
 IsMeaningStop unit program NoMemory = Unit {0}

@@ -2,7 +2,7 @@
 
 ghost use Rattle.std.specs.Prelude.{◌≡◌, ◌↔◌, ℤ, ◌<ℤ◌, pos, Bool, true, List, None};
 ghost use Rattle.std.specs.List.{AllByRecursion};
-ghost use Rattle.text_place.specs.declared.fault.Place.{Place};
+ghost use Rattle.plain_text.specs.declared.place.Place.{Place};
 ghost use Rattle.text_place.specs.declared.fault.FaultKind.{FaultKind};
 ghost use Rattle.scad_ast.specs.Terms.{StatementTerm, StatementTerms};
 ghost use Rattle.scad_ast.specs.Places.{HoldsPlace};
@@ -60,7 +60,7 @@ pub fn hulls_in_programs_hold_inner_combinations()
         pos 0 <ℤ q.w →
         IsInside (hull_mesh design) q ↔ IsInnerCombination (points_in_order (points_of design)) q }
 {
-    // Brings a law alone: the same of the hull of points.
+    // Called for its law; does nothing when it runs: the same of the hull of points.
     hulls_hold_inner_combinations();
 }
 
@@ -70,7 +70,7 @@ pub fn one_meaning()
         IsMeaning unit program m →
         IsMeaning unit program n → m ≡ n }
 {
-    // Each call brings a law alone: right judges say the same, and a design has one placing at most.
+    // Each call is for its law, and does nothing when it runs: right judges say the same, and a design has one placing at most.
     shapes_have_one_verdict();
     one_placing();
 }
@@ -80,7 +80,7 @@ pub fn some_meaning()
     ensures { (unit : LengthUnit) (program : List StatementTerm) →
         (meaning : Meaning) × IsMeaning unit program meaning }
 {
-    // Each call brings a law alone: right judges say the same, and a design has a placing.
+    // Each call is for its law, and does nothing when it runs: right judges say the same, and a design has a placing.
     shapes_have_one_verdict();
     some_placing();
 }
@@ -92,7 +92,8 @@ pub fn programs_mean_proper_trees()
         IsMeaning unit program (a_tree tree) →
         IsProper tree }
 {
-    // Each call brings a law alone: right judges say the same, designs stay trim, and what is placed of a trim one is proper.
+    // Each call is for its law, and does nothing when it runs: right judges say the same, designs stay trim, and what is
+    // placed of a trim one is proper.
     shapes_have_one_verdict();
     designs_stay_trim();
     placed_trees_are_proper();

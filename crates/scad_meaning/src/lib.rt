@@ -1,7 +1,7 @@
-//! What a program means: the definitions, with laws and worked rows.
+//! What a program means: the definitions, with laws and worked examples.
 //!
-//! Read `Sources.IsMeaning` first: it says which tree a program means, or which fault comes first. It stands on
-//! `Meaning.design_of`, and that on `Meaning.core_design` of each instance.
+//! Read `Sources.IsMeaning` first: it defines the tree that a program means, or its first fault. It rests on
+//! `Meaning.design_of`, which rests on `Meaning.core_design` of each instance.
 #![tactic(auto)]
 
 mod extrusion;

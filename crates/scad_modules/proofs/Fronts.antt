@@ -3,7 +3,7 @@ use Rattle.std.proofs.Common.{◌≡◌, ℕ, ◌+◌, ◌<◌, ◌≤◌, List,
 use Rattle.scad_value.specs.declared.value.Value.{Value}
 use Rattle.scad_value.specs.Values.{Val, Vals, vals_from}
 use Rattle.scad_value.specs.View.{val_of, vals_in}
-use Rattle.scad_value.proofs.Lists.{from_here, from_end}
+use Rattle.scad_value.proofs.lemmas.Lists.{from_here, from_end}
 use Rattle.scad_modules.specs.Reading.{with_first, each_in}
 
 abbrev pub in_front : {A : Type 0} → List A → Option (List A) → Option (List A)

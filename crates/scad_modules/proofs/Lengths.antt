@@ -6,7 +6,7 @@ use Rattle.scad_value.specs.Values.{Val, vals_from}
 use Rattle.scad_value.specs.View.{val_of, vals_in}
 use Rattle.scad_modules.specs.Reading.{number_in_value, with_first, each_in, of_length, with_third_from}
 
--- what is read has so many items
+-- what is read has the given number of items
 abbrev pub IsAsLong : {A : Type 0} → ℕ → Option (List A) → Type 0
 IsAsLong n None = Unit {0}
 IsAsLong n (Some xs) = length xs ≡ n

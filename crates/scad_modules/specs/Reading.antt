@@ -36,7 +36,7 @@ abbrev pub list_in : {A : Type 0} → (Val → Option A) → Val → Option (Lis
 list_in read (ListVal items) = each_in read items
 list_in read v = None
 
--- a list of so many items, or none
+-- a list of the given number of items, or none
 abbrev pub of_length : {A : Type 0} → ℕ → Option (List A) → Option (List A)
 of_length n None = None
 of_length n (Some xs) = if nat_eq (length xs) n then Some xs else None
@@ -45,11 +45,11 @@ of_length n (Some xs) = if nat_eq (length xs) n then Some xs else None
 abbrev pub numbers_in : Val → Option (List ℤ)
 numbers_in = list_in number_in_value
 
--- a list of so many numbers
+-- a list of the given number of numbers
 abbrev pub vector_in : ℕ → Val → Option (List ℤ)
 vector_in n v = of_length n (numbers_in v)
 
--- one number for each of so many sides, or a list of so many
+-- one number for each of the given number of sides, or a list of that many
 abbrev pub sides_in : ℕ → Val → Option (List ℤ)
 sides_in n (NumberVal side) = Some (replicate n side)
 sides_in n v = vector_in n v
@@ -79,7 +79,7 @@ abbrev pub factors_in : Val → Option (List ℤ)
 factors_in (NumberVal factor) = Some (factor ∷ factor ∷ factor ∷ [])
 factors_in v = coordinates_in (pos 1) v
 
--- points of so many numbers each
+-- points of the given number of numbers each
 abbrev pub points_in : ℕ → Val → Option (List (List ℤ))
 points_in n = list_in (vector_in n)
 

@@ -55,7 +55,7 @@ quarters_of angle =
     let quarters = (unsigned_abs angle / 90) % 4 in
     if int_lt angle (pos 0) then (4 - quarters) % 4 else quarters
 
--- the rotation about an axis by so many quarter turns as an angle is
+-- the rotation about an axis by the given number of quarter turns as an angle is
 abbrev pub quarter_rotation_about : ℕ → ℤ → Affine
 quarter_rotation_about axis angle = power_of (quarter_rotation axis) (quarters_of angle)
 

@@ -1,3 +1,5 @@
+//! What a built-in module's arguments come to: a shape, a step, or the children that are wanted.
+
 use csg_tree::Op;
 use int_transform::Step;
 use primitives::Corners;

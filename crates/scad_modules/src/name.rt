@@ -1,3 +1,5 @@
+//! The names of built-in modules, and of those of OpenSCAD that the profile leaves out.
+
 ghost use Rattle.std.specs.Prelude.{◌≡◌};
 ghost use Rattle.scad_modules.specs.Table.{builtin_module_of, is_left_out_module};
 

@@ -1,3 +1,5 @@
+//! The built-in modules with their parameters.
+
 ghost use Rattle.std.specs.Prelude.{◌≡◌, map};
 ghost use Rattle.scad_modules.specs.Table.{parameters_of};
 

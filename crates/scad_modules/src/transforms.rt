@@ -184,7 +184,7 @@ fn rotation(alloc: Global, by: [i64; 3]) -> Result<Effect, ValueStop>
     Ok(Effect::Move(steps))
 }
 
-// The rotation about axis 0, 1 or 2 by so many quarter rotations as an angle is.
+// The rotation about axis 0, 1 or 2 by the given number of quarter rotations as an angle is.
 fn quarter_turns_about(axis: u8, angle: i64) -> Step
     requires { axis < 3 }
     ensures { result ≡ quarter_rotation_about axis angle }

@@ -13,9 +13,9 @@ use Rattle.scad_grammar.specs.declared.SyntaxFault.{SyntaxFault}
 use Rattle.scad_grammar.specs.FirstFault.{IsFirstFault}
 use Rattle.scad_grammar.specs.Grammar.{WholeProgram}
 use Rattle.scad_grammar.specs.Reading.{then_read}
-use Rattle.scad_grammar.proofs.Counts.{few_begun}
-use Rattle.scad_grammar.proofs.FirstFaults.{no_fault}
-use Rattle.scad_grammar.proofs.Programs.{complete_at}
+use Rattle.scad_grammar.proofs.lemmas.Counts.{few_begun}
+use Rattle.scad_grammar.proofs.lemmas.FirstFaults.{no_fault}
+use Rattle.scad_grammar.proofs.lemmas.Programs.{complete_at}
 use Rattle.scad_parser.specs.Parsing.{ends_with_end, nothing_after, whole_read, kind_of, place_of_first, IsSyntaxStop, StandsAtToken, AnswersProgram, AnswersFault, IsRead}
 use Rattle.scad_parser.proofs.Whole.{ReadProgram, verdict, whole_found, only_whole}
 

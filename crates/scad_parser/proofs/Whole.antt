@@ -13,11 +13,11 @@ use Rattle.scad_grammar.specs.FirstFault.{IsProgramPrefix, IsFault, IsFirstFault
 use Rattle.scad_grammar.specs.Grammar.{WholeProgram}
 use Rattle.scad_grammar.specs.Reading.{Read, then_read, next_is}
 use Rattle.scad_grammar.specs.StatementReads.{program_read}
-use Rattle.scad_grammar.proofs.FirstFaults.{only_fault, one_fault, no_fault, program_or_fault}
-use Rattle.scad_grammar.proofs.Programs.{complete_at}
-use Rattle.scad_grammar.proofs.Readers.{Told, SameHead}
-use Rattle.scad_grammar.proofs.Statements.{program_reads}
-use Rattle.scad_grammar.proofs.Wider.{lift, is_outline}
+use Rattle.scad_grammar.proofs.lemmas.FirstFaults.{only_fault, one_fault, no_fault, program_or_fault}
+use Rattle.scad_grammar.proofs.lemmas.Programs.{complete_at}
+use Rattle.scad_grammar.proofs.lemmas.Readers.{Told, SameHead}
+use Rattle.scad_grammar.proofs.lemmas.Statements.{program_reads}
+use Rattle.scad_grammar.proofs.lemmas.Wider.{lift, is_outline}
 use Rattle.scad_parser.specs.Parsing.{ends_with_end, nothing_after, whole_read}
 
 abbrev pub ReadProgram : Type 0

@@ -1,6 +1,6 @@
 -- What the parser answers: the program that tokens write, or their first fault.
 use Rattle.std.specs.Prelude.{◌≡◌, ℕ, List, [], ◌∷◌, Bool, false, Some, Result, Ok, Err, Contains}
-use Rattle.text_place.specs.declared.fault.Place.{Place}
+use Rattle.plain_text.specs.declared.place.Place.{Place}
 use Rattle.text_place.specs.declared.fault.Fault.{Fault as FaultIn}
 use Rattle.text_place.specs.declared.fault.FaultKind.{FaultKind}
 use Rattle.text_place.specs.declared.fault.FaultKind.TheVariants.{Expected as ExpectedKind, Nested as NestedKind, NotInProfile as NotInProfileKind}
@@ -38,7 +38,7 @@ abbrev pub IsSyntaxStop : ℕ → List Token → Stop → Type 0
 IsSyntaxStop depth tokens (Fault fault) = HasSyntaxFault depth tokens fault
 IsSyntaxStop depth tokens NoMemory = Unit {0}
 
--- a fault stands at one of the tokens, which may be the end; want of memory has no place
+-- a fault stands at one of the tokens, which may be the end; running out of memory has no place
 abbrev pub StandsAtToken : List Token → Stop → Type 0
 StandsAtToken tokens (Fault fault) = (token : Token) × Contains tokens token × (fault.place ≡ token.place)
 StandsAtToken tokens NoMemory = Unit {0}

@@ -1,3 +1,5 @@
+//! Parses assignments.
+
 ghost use Rattle.scad_ast.specs.ExprView.{term_of};
 ghost use Rattle.scad_ast.specs.StatementView.{statement_of};
 ghost use Rattle.scad_grammar.specs.Grammar.{assignment_term};

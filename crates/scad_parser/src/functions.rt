@@ -1,3 +1,5 @@
+//! Parses the definitions of functions.
+
 ghost use Rattle.scad_ast.specs.StatementView.{statement_of};
 ghost use Rattle.scad_grammar.specs.Reads.{expr_read};
 ghost use Rattle.scad_grammar.specs.StatementReads.{param_in, function_read};

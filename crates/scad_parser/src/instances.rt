@@ -1,3 +1,5 @@
+//! Parses modifier characters, and puts instances together.
+
 ghost use Rattle.std.specs.Prelude.{◌≡◌};
 ghost use Rattle.scad_ast.specs.ExprView.{term_of};
 ghost use Rattle.scad_ast.specs.StatementView.{instance_of, core_of, modifier_of, modifiers_of};

@@ -1,3 +1,5 @@
+//! Parses the variables of a loop.
+
 ghost use Rattle.std.specs.Prelude.{map};
 ghost use Rattle.scad_ast.specs.StatementView.{binder_of, binders_of};
 ghost use Rattle.scad_grammar.specs.Classes.{has_class, name_class, comma_sign};

@@ -1,3 +1,5 @@
+//! Parses lists of parameters.
+
 ghost use Rattle.std.specs.Prelude.{◌≡◌, [], map};
 ghost use Rattle.scad_ast.specs.StatementView.{param_of, params_of};
 ghost use Rattle.scad_grammar.specs.Classes.{has_class, name_class, comma_sign};

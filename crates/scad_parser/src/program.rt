@@ -1,3 +1,5 @@
+//! The parser: from tokens to the program that they write, or to their first fault.
+
 ghost use Rattle.std.specs.Prelude.{◌≡◌, ◌<◌, ◌≤◌, ◌^◌, List, length, true, IfOk, IfErr};
 ghost use Rattle.scad_lexer.specs.declared.token.Token.{Token};
 ghost use Rattle.scad_lexer.specs.Tokens.{ends_once};

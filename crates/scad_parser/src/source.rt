@@ -34,7 +34,7 @@ pub fn with_program<T, F: FnOnce(&Program) -> Result<T, Stop>>(
     requires make { F.IsAlwaysCallable make }
     ensures { IsMadeOf (FnOnceReturnsAt F.FnOnce make) source.now result }
 {
-    // Brings a law alone: tokens that end once end with their only end.
+    // Called for its law; does nothing when it runs: tokens that end once end with their only end.
     an_only_end_is_last();
     let tokens = lex(alloc, source)?;
     with_parsed(alloc, &tokens, make)

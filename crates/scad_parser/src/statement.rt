@@ -1,3 +1,5 @@
+//! Parses statements, definitions of modules, and instances.
+
 ghost use Rattle.scad_ast.specs.StatementView.{statement_of, statements_of, instance_of, core_of, body_of};
 ghost use Rattle.scad_grammar.specs.Classes.{has_class_in, has_class, else_word};
 ghost use Rattle.scad_grammar.specs.Languages.{second_of};

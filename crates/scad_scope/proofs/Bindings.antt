@@ -145,7 +145,7 @@ place_there (n ∷ ns) name = by_name (bytes_eq n name) (newest_place ns name) (
     by_name false None h = tt
     by_name false (Some k) h = omega (arith, h)
 
--- a name's place is one of the first so many
+-- a name's place is below a given one
 pub place_early : (names : List (List ℕ)) (name : List ℕ) (n : ℕ) (place : Option ℕ) → n ≤ length names
     → place ≡ newest_place (reverse (take n names)) name → IfSome place (λ k. k < n)
 place_early names name n place h e = subst (λ o. IfSome o (λ k. k < n)) (sym e)

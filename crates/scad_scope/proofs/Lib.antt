@@ -1,5 +1,5 @@
 pub mod Envs
 pub mod Bound
 pub mod Numbered
-pub mod Chain
+pub mod lemmas
 pub mod Bindings

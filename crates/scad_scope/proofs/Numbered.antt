@@ -7,7 +7,7 @@ use Rattle.scad_value.specs.Values.{Val}
 use Rattle.scad_definitions.specs.declared.blocks.Blocks.{Blocks}
 use Rattle.scad_definitions.specs.Tables.{block_table_in, source_functions_in, source_modules_in}
 use Rattle.scad_definitions.specs.Numbered.{are_numbers_below}
-use Rattle.scad_definitions.proofs.Numbered.{below_joined, own_below}
+use Rattle.scad_definitions.proofs.lemmas.Numbered.{below_joined, own_below}
 use Rattle.scad_scope.specs.Names.{Pairs, ScopeRow, with_variable, rows_with_variable}
 use Rattle.scad_scope.specs.Rows.{row_of_block}
 use Rattle.scad_scope.specs.Numbered.{each_row, StaysBelow}

@@ -23,7 +23,7 @@ pub record IsNameAt (names : List (List ℕ)) (place : ℕ) (name : List ℕ) : 
   pub there : place < length names
   pub same : name ≡ slice_index_or names place []
 
--- that a name is the next one behind so many, where nothing was bound behind these
+-- that a name is the next one behind the given number, where nothing was bound behind these
 pub record IsNextName (later : Pairs Val) (names : List (List ℕ)) (count : ℕ)
     (name : List ℕ) : Type 0 where
   pub newest : later ≡ []

@@ -26,7 +26,7 @@ mutual
     no_numbered_activation : NumberedActivation
     numbered_activation : (children : ℕ) → (caller : NumberedEnv) → NumberedActivation
 
--- an activation by numbers, where the caller's scope is one of the first so many
+-- an activation by numbers, where the number of the caller's scope is below a given one
 abbrev pub activation_from : (ℕ → NumberedEnv) → ℕ → Option (ℕ × ℕ) → NumberedActivation
 activation_from scope count None = no_numbered_activation
 activation_from scope count (Some call) =

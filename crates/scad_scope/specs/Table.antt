@@ -1,6 +1,6 @@
 -- What the calls of the table of scopes answer.
 use Rattle.std.specs.Prelude.{◌≡◌, ℕ, ◌<◌, List, length, Option, Some, None, IsTrue}
-use Rattle.text_place.specs.declared.fault.Place.{Place}
+use Rattle.plain_text.specs.declared.place.Place.{Place}
 use Rattle.text_place.specs.declared.fault.Fault.{Fault}
 use Rattle.text_place.specs.declared.fault.FaultKind.{FaultKind}
 use Rattle.scad_value.specs.declared.value.Value.{Value}

@@ -1,3 +1,5 @@
+//! Puts a fault at its place.
+
 ghost use Rattle.std.specs.Prelude.{◌≡◌};
 
 use text_place::{Fault, FaultKind, Place};

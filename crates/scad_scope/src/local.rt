@@ -1,3 +1,5 @@
+//! Makes the scope of a block.
+
 ghost use Rattle.std.specs.Prelude.{◌≡◌, IfOk, option_map};
 ghost use Rattle.scad_scope.specs.Rows.{row_of_block, local_row};
 ghost use Rattle.scad_scope.specs.Names.{empty_row};

@@ -1,3 +1,5 @@
+//! All scopes of an evaluation by number, and the dynamic bindings of special names.
+
 use crate::fault::fault;
 use crate::local::{empty, scope_of_block};
 use crate::table::{
@@ -137,7 +139,7 @@ impl Scopes {
         Ok(number as u32)
     }
 
-    /// Cuts the table to its first scopes, so many of them.
+    /// Cuts the table to the given number of its first scopes.
     pub fn leave(&mut self, to: u32)
         requires some { 1 ≤ to }
         requires there { to ≤ length (rows_of self.old) }
@@ -287,7 +289,7 @@ impl Scopes {
         self.bindings.len()
     }
 
-    /// Cuts the dynamic bindings to the oldest ones, so many of them.
+    /// Cuts the dynamic bindings to the given number of the oldest ones.
     pub fn unwind(&mut self, to: u32)
         requires { to ≤ length (bindings_of self.old) }
         ensures bindings { bindings_of self.new ≡ oldest_pairs to (bindings_of self.old) }

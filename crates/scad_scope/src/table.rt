@@ -1,3 +1,5 @@
+//! One scope: its variables, its block's definitions, and the scope outside it.
+
 ghost use Rattle.std.specs.Prelude.{◌≡◌, ◌<◌, ◌∷◌, ℕ, IsTrue, OnOk, OnErr, IfOk, IfSome};
 ghost use Rattle.scad_value.specs.Values.{NumberVal, is_bounded};
 ghost use Rattle.scad_value.specs.View.{val_of};

@@ -1,3 +1,5 @@
+//! The variables of one scope; those that its block expects share their names with other scopes.
+
 ghost use Rattle.std.specs.Prelude.{◌≡◌, ◌≤◌, length, option_map, IsTrue};
 ghost use Rattle.scad_definitions.specs.ExpectedView.{names_expected};
 ghost use Rattle.scad_scope.specs.Known.{names_known, IsNameAt};
@@ -16,7 +18,7 @@ pub(crate) struct Variables {
     /// Those that were bound before the first name of the table.
     pub(crate) earlier: NameList<BoundedValue>,
     pub(crate) table: Option<Rc<NameTable>>,
-    /// The values of the table's first names, so many of them.
+    /// The values of the given number of the table's first names.
     pub(crate) values: Vec<BoundedValue>,
     /// Those that were bound behind these.
     pub(crate) later: NameList<BoundedValue>,

@@ -1,3 +1,3 @@
-pub mod Lists
+pub mod lemmas
 pub mod Integers
 pub mod Bounded

@@ -2,7 +2,7 @@
 use Rattle.std.specs.Prelude.{ℕ, suc, ◌+◌, ◌^◌, max, ℤ, Bool, true, false, not, ◌&&◌, ◌||◌, List, [], ◌∷◌, nat_lt, unsigned_abs}
 use Rattle.std.specs.Ordering.{int_eq}
 use Rattle.std.specs.Str.{bytes_eq}
-use Rattle.text_place.specs.Decimals.{least_too_large}
+use Rattle.plain_text.specs.Decimals.{least_too_large}
 
 mutual
   -- a number, a truth, the bytes of a text, a list, a range from one number by a step to another one, or `undef`

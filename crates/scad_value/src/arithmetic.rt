@@ -1,3 +1,5 @@
+//! Arithmetic on whole numbers within the limit of numbers, and on lists of them.
+
 ghost use Rattle.std.specs.Prelude.{◌≡◌, ◌<◌, ◌≤◌, ◌^◌, ◌*ℤ◌, length, IsTrue, IfOk, unsigned_abs};
 ghost use Rattle.scad_value.specs.Values.{count_of, element_count_in, vals_from, is_small, has_small_numbers, have_small_numbers};
 ghost use Rattle.scad_value.specs.Operators.{number_or_too_large, by_elements, pairs_by_elements, if_equal, each_element, each_of_elements, dot_of, product_at, product_row, remainder_row, quotient_row};

@@ -1,3 +1,5 @@
+//! A value that keeps the limits of values.
+
 ghost use Rattle.std.specs.Prelude.{IsTrue};
 ghost use Rattle.scad_value.specs.Values.{is_bounded};
 ghost use Rattle.scad_value.specs.View.{val_of};

@@ -1,3 +1,5 @@
+//! Whether two values are equal.
+
 ghost use Rattle.std.specs.Prelude.{◌≡◌};
 ghost use Rattle.scad_value.specs.Values.{are_same, all_same, vals_from};
 ghost use Rattle.scad_value.specs.View.{val_of, vals_of};

@@ -1,4 +1,4 @@
-//! The values of the modelling language, its operators, and their answers with the place of a fault.
+//! The values of the modelling language, its operators, and the results of operators, with the place of a fault.
 #![tactic(auto)]
 
 mod arithmetic;

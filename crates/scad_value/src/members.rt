@@ -1,3 +1,5 @@
+//! The members `x`, `y` and `z` of lists and texts.
+
 ghost use Rattle.std.specs.Prelude.{◌≡◌, ◌≤ℤ◌, IfSome, pos};
 ghost use Rattle.scad_value.specs.Answers.{member_of};
 

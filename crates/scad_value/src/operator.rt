@@ -1,3 +1,5 @@
+//! The operators of the language on values.
+
 ghost use Rattle.std.specs.Prelude.{◌≡◌, ◌<◌, ◌^◌, IsTrue, IfOk, Ok, length};
 ghost use Rattle.scad_value.specs.Values.{Val, is_bounded, vals_from, has_small_numbers, have_small_numbers, element_count_in, NumberVal, TextVal, ListVal, UndefVal};
 ghost use Rattle.scad_value.specs.Operators.{AnswerOrFault, binary_of, unary_of, index_of, value_or_long_list, product_of, quotient_of, remainder_of, dot_row, dot_of, and_then, number_or_too_large, number_answer, order_of, item_at, byte_at};

@@ -1,3 +1,5 @@
+//! Operators whose faults stand at a place.
+
 ghost use Rattle.std.specs.Prelude.{◌≡◌};
 ghost use Rattle.scad_value.specs.Values.{Val, truth_of};
 ghost use Rattle.scad_value.specs.Operators.{AnswerOrFault, binary_of, unary_of};

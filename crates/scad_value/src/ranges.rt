@@ -1,3 +1,5 @@
+//! Makes ranges of their parts.
+
 ghost use Rattle.scad_value.specs.BoundedView.{bounded_val};
 ghost use Rattle.scad_value.specs.Answers.{range_of, stepped_range_of};
 ghost use Rattle.scad_value.specs.AnswerView.{MeetsAnswerAt};

@@ -1,3 +1,5 @@
+//! Why an operator gives no value: a fault, or out of memory.
+
 use std::alloc::{AllocError, AllocFailed};
 use text_place::{FaultKind, NoMemory};
 

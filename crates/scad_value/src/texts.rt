@@ -1,3 +1,5 @@
+//! Makes the value of a text.
+
 ghost use Rattle.std.specs.Prelude.{◌≡◌, IfOk};
 ghost use Rattle.scad_value.specs.Values.{TextVal};
 ghost use Rattle.scad_value.specs.BoundedView.{bounded_val};

@@ -1,3 +1,5 @@
+//! The values of the language, and lists of them.
+
 ghost use Rattle.std.specs.Prelude.{◌≡◌, ◌-◌, ◌^◌, min, IfOk};
 ghost use Rattle.scad_value.specs.Values.{element_count, element_count_in, nesting_of, nesting_in, truth_of, vals_from, ListVal, is_small, is_bounded, has_small_numbers, have_small_numbers};
 ghost use Rattle.scad_value.specs.View.{val_of, vals_of, vals_in};

@@ -1,4 +1,4 @@
-//! The program: its words, standard input and standard output, handed to the server.
+//! The program: it passes its words, standard input and standard output to the server.
 #![tactic(auto)]
 
 use script_server::run_program;

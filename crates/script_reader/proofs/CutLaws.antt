@@ -4,8 +4,8 @@ use Rattle.std.specs.Prelude.{All, Option, Some, None, IfNone}
 use Rattle.std.specs.Int.{IsInRange}
 use Rattle.std.proofs.lemmas.Str.Parse.{digit_at}
 use Rattle.std.proofs.lemmas.List.Elements.{All-head, All-tail, All-weaker, All-from_get_or}
-use Rattle.text_place.specs.Decimals.{IsShortNumeral, IsNumeralOf}
-use Rattle.text_place.specs.Separators.{space}
+use Rattle.plain_text.specs.Decimals.{IsShortNumeral, IsNumeralOf}
+use Rattle.plain_text.specs.Separators.{space}
 use Rattle.script_reader.specs.Spelling.{IsNameByte, IsName, IsTail, BeginsWithName}
 use Rattle.script_reader.specs.Reading.{IsCutAtSpace, IsEditOf, IsRange}
 

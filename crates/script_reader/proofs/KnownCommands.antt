@@ -3,7 +3,7 @@ use Rattle.std.proofs.Common.{◌≡◌, inl, inr, ⊎_elim, ℕ, List, ◌++◌
 use Rattle.std.proofs.lemmas.List.{append_cancel_left}
 use Rattle.script_reader.specs.declared.script.Command.{Command}
 use Rattle.script_reader.specs.declared.script.Command.TheVariants.{Put, Set, Cut, Show, Export, Bad}
-use Rattle.text_place.specs.Separators.{space}
+use Rattle.plain_text.specs.Separators.{space}
 use Rattle.script_reader.specs.Spelling.{IsKnownCommand, IsEditWords}
 use Rattle.script_reader.specs.Reading.{IsEditOf, IsRange, IsPutOrBad, IsSetOrBad, IsCutOrBad, IsKnownOrBad}
 

@@ -10,8 +10,8 @@ use Rattle.script_reader.specs.Lines.{IsTrimmed, IsFirstLine}
 use Rattle.script_reader.specs.Spelling.{IsTail, IsEditWords, IsKnownCommand, IsCommand, BeginsWithName}
 use Rattle.script_reader.specs.Scripts.{ClientLine, IsClientLine}
 use Rattle.script_reader.proofs.CutLaws.{one_cut, no_cut, one_space, name_plain, digits_plain, tail_ends}
-use Rattle.text_place.specs.Decimals.{IsNumeralOf}
-use Rattle.text_place.specs.Separators.{space, newline}
+use Rattle.plain_text.specs.Decimals.{IsNumeralOf}
+use Rattle.plain_text.specs.Separators.{space, newline}
 
 some_bytes : (bytes rest : List ℕ) → bytes ≢ [] → rest ≡ [] → length rest < length bytes
 some_bytes [] rest some e = absurd (some refl)

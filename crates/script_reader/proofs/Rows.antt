@@ -12,8 +12,8 @@ use Rattle.script_reader.specs.Scripts.{ClientLine, IsSoundLine, IsScript, IsScr
 use Rattle.script_reader.specs.Reading.{IsEditOf}
 use Rattle.script_reader.proofs.CutLaws.{no_cut, one_space, digits_plain, tail_ends}
 use Rattle.script_reader.proofs.KnownCommands.{put_known}
-use Rattle.text_place.specs.Decimals.{IsNumeralOf}
-use Rattle.text_place.specs.Separators.{space}
+use Rattle.plain_text.specs.Decimals.{IsNumeralOf}
+use Rattle.plain_text.specs.Separators.{space}
 
 -- ---- lines
 -- none of the bytes is this one

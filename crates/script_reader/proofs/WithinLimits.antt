@@ -13,7 +13,7 @@ use Rattle.script_reader.specs.Scripts.{ClientLine, IsClientLine}
 use Rattle.script_reader.specs.Limits.{IsText, HasText, IsClientWithin, AreClientsWithin}
 use Rattle.script_reader.specs.Reading.{with_command, with_client_line, place_in, commands_in, AddsLine}
 use Rattle.script_reader.proofs.Places.{known_entry, new_entry, known_commands}
-use Rattle.text_place.specs.Separators.{space}
+use Rattle.plain_text.specs.Separators.{space}
 
 behind_plain : (a b : List ℕ) → All (λ c. c ≢ 10) (a ++ b) → All (λ c. c ≢ 10) b
 behind_plain [] b h = h

@@ -1,10 +1,10 @@
 -- How a script's fault is told.
 use Rattle.std.specs.Prelude.{ℕ, List, [], ◌++◌, codes}
-use Rattle.text_place.specs.Decimals.{numeral}
+use Rattle.plain_text.specs.Decimals.{numeral}
 use Rattle.script_reader.specs.declared.script.ScriptFault.{ScriptFault}
 use Rattle.script_reader.specs.declared.script.ScriptFault.TheVariants.{TooLarge, TooLong, NoName, TooManyClients, TooManyCommands, NoMemory}
-use Rattle.text_place.specs.Separators.{newline}
-use Rattle.text_place.specs.Separators.{space}
+use Rattle.plain_text.specs.Separators.{newline}
+use Rattle.plain_text.specs.Separators.{space}
 
 -- the word of a script's fault
 abbrev pub script_fault_word : ScriptFault → List ℕ

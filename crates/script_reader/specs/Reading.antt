@@ -7,10 +7,10 @@ use Rattle.script_reader.specs.declared.script.ScriptFault.TheVariants.{TooLarge
 use Rattle.script_reader.specs.declared.script.Command.{Command}
 use Rattle.script_reader.specs.declared.script.Command.TheVariants.{Put, Set, Cut, Show, Export, Bad}
 use Rattle.script_reader.specs.declared.script.ClientScript.{ClientScript}
-use Rattle.text_place.specs.Separators.{space}
+use Rattle.plain_text.specs.Separators.{space}
 use Rattle.script_reader.specs.Spelling.{IsTail, IsKnownCommand, BeginsWithName}
 use Rattle.script_reader.specs.Scripts.{ClientLine, IsClientLine}
-use Rattle.text_place.specs.Decimals.{IsNumeralOf}
+use Rattle.plain_text.specs.Decimals.{IsNumeralOf}
 
 -- the bytes are cut before their first space, or at their end where they have none
 pub record IsCutAtSpace (bytes front tail : List ℕ) : Type 0 where

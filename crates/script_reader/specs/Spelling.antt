@@ -1,9 +1,9 @@
 -- How the lines of a script are spelled.
 use Rattle.std.specs.Prelude.{◌≡◌, ℕ, ◌≤◌, List, [], ◌++◌, length, All, codes, ◌⊎◌}
-use Rattle.text_place.specs.Decimals.{IsNumeralOf}
+use Rattle.plain_text.specs.Decimals.{IsNumeralOf}
 use Rattle.script_reader.specs.declared.script.Command.{Command}
 use Rattle.script_reader.specs.declared.script.Command.TheVariants.{Put, Set, Cut, Show, Export, Bad}
-use Rattle.text_place.specs.Separators.{space}
+use Rattle.plain_text.specs.Separators.{space}
 
 -- `a` to `z` and `0` to `9`
 abbrev pub IsNameByte : ℕ → Type 0

@@ -8,8 +8,8 @@ ghost use Rattle.script_reader.specs.Reading.{with_client_line, AddsCommandAtPla
 use crate::cuts::{command_of, split_name};
 use crate::script::{ClientScript, Command, Commands, ScriptFault};
 use indexmap::IndexSet;
+use plain_text::{Bytes, NoMemory};
 use std::alloc::Global;
-use text_place::{Bytes, NoMemory};
 
 // The most bytes of a line.
 const LINE_BYTES: usize = 1024;

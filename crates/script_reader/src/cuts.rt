@@ -6,8 +6,8 @@ ghost use Rattle.script_reader.specs.Spelling.{IsName, BeginsWithName, IsKnownCo
 ghost use Rattle.script_reader.specs.Reading.{IsCutAtSpace, IsEditOf, IsRange, IsPutOrBad, IsSetOrBad, IsCutOrBad, IsWordOrBad, IsKnownOrBad};
 
 use crate::script::Command;
+use plain_text::{Bytes, NoMemory, read_decimal};
 use std::alloc::Global;
-use text_place::{Bytes, NoMemory, read_decimal};
 
 /// A line as it counts: without one carriage return at its end.
 pub fn trimmed_line(raw: &[u8]) -> &[u8]

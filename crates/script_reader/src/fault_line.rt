@@ -4,8 +4,8 @@ ghost use Rattle.std.specs.Prelude.{◌≡◌, ◌++◌, IfOk, OnOk};
 ghost use Rattle.script_reader.specs.FaultLines.{script_fault_word, script_fault_number, script_fault_line};
 
 use crate::script::ScriptFault;
+use plain_text::{NoMemory, push_decimal};
 use std::alloc::Global;
-use text_place::{NoMemory, push_decimal};
 
 fn word_of(fault: ScriptFault) -> &'static [u8]
     ensures { result.now ≡ script_fault_word fault }

@@ -1,4 +1,4 @@
-//! Scripts: commands of clients, one on each line.
+//! Scripts: commands of clients, one command on each line.
 #![tactic(auto)]
 
 mod clients;

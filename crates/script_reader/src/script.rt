@@ -2,8 +2,8 @@
 
 ghost use Rattle.std.specs.Prelude.{◌≡◌, ◌∷◌, [], ◌++◌, OnOk};
 
+use plain_text::{Bytes, NoMemory};
 use std::marker::Model;
-use text_place::{Bytes, NoMemory};
 
 /// One command of a client.
 #[derive(Drop)]

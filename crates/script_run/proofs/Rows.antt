@@ -5,7 +5,7 @@ use Rattle.script_reader.specs.declared.script.Command.TheVariants.{Put, Show, E
 use Rattle.script_reader.specs.declared.script.ClientScript.{ClientScript}
 use Rattle.edit_session.specs.declared.fault.SessionFault.TheVariants.{NoSuchLine, TooManyExports, BadCommand}
 use Rattle.edit_session.specs.Sessions.{State, start_state}
-use Rattle.reply_text.specs.declared.reply.PassedLimit.TheVariants as limit
+use Rattle.export_limits.specs.declared.passed.PassedLimit.TheVariants as limit
 use Rattle.reply_text.specs.declared.reply.Reply.{Reply}
 use Rattle.reply_text.specs.declared.reply.Reply.TheVariants as reply
 use Rattle.script_run.specs.Asking.{MayExport}

@@ -7,7 +7,7 @@ use Rattle.script_reader.specs.Limits.{IsClientWithin}
 use Rattle.reply_text.specs.declared.reply.Reply.{Reply}
 use Rattle.reply_text.specs.Answers.{Fits, AllFit}
 use Rattle.edit_session.specs.Sessions.{start_state}
-use Rattle.pair_work.specs.Pairs.{EachReady, EachWorked}
+use Rattle.parallel_zip.specs.Pairs.{EachReady, EachWorked}
 use Rattle.script_run.specs.declared.served.ServedClient.{ServedClient}
 use Rattle.script_run.specs.Asking.{MayServe, AreFresh}
 use Rattle.script_run.specs.Moves.{MovesAlong, AllMove}
@@ -104,7 +104,7 @@ module _ {E : Type 0} (Exports : List ℕ → Reply → Type 0) (Moves : List �
   served_many (served ∷ all) (e ∷ es) (served' ∷ all') (e' ∷ es') h = omega (arith, served_many all es all' es' h.1)
   served_many all es all' es' h = absurd h
 
-  -- what is told of clients that were all served, with the replies that were taken of them
+  -- what the contract says about clients that were all served, with the replies that were taken of them
   pub record AllServed (clients : List ClientScript) (taken : List (List Reply)) (es idle es' : List E) : Type 0 where
     pub fits : AllFit Exports clients taken
     pub few : All (λ rs. length rs ≤ 8192) taken

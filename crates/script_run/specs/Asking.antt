@@ -10,8 +10,8 @@ use Rattle.edit_session.specs.Asking.{MayWantMemory}
 abbrev pub ExportsSource : State → Command → List ℕ → Type 0
 ExportsSource s c source = (c ≡ Export) × (refusal s c ≡ None) × (source ≡ source_of s)
 
--- One of these commands may export a source: it does in the state after those before it, where memory ran out for some of them at
--- which it may, which count as not given.
+-- One of these commands may export a source: it does in the state after those before it, where memory ran out for some of them
+-- at which it may, which count as not given.
 abbrev pub MayExport : State → List Command → List ℕ → Type 0
 MayExport s [] source = ⊥
 MayExport s (c ∷ cs) source =

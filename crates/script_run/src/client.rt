@@ -13,11 +13,11 @@ ghost use Rattle.script_run.specs.Moves.{GoesOn, reply_or_want, MovesAt, MovesAl
 
 use crate::exporter::Exporter;
 use edit_session::{Asked, Session, SessionFault};
+use plain_text::{Lines, NoMemory};
 use plane_predicate::Unit;
 use reply_text::Reply;
 use script_reader::Command;
 use std::alloc::Global;
-use text_place::{Lines, NoMemory};
 
 // Shows the lines, and books it.
 fn show(alloc: Global, session: &mut Session) -> Result<Reply, NoMemory>

@@ -6,10 +6,10 @@ ghost use Rattle.reply_text.specs.declared.reply.Reply.{Reply};
 ghost use Rattle.reply_text.specs.declared.reply.Reply.TheVariants as replies;
 ghost use Rattle.script_run.specs.Moves.{GoesOn, reply_or_want};
 
+use plain_text::NoMemory;
 use plane_predicate::Unit;
 use reply_text::{Exporting, Reply};
 use std::alloc::Global;
-use text_place::NoMemory;
 
 /// Exports sources.
 pub trait Exporter: Exporting {
@@ -22,7 +22,7 @@ pub trait Exporter: Exporting {
     // What an export of a source in a unit that is answered so makes of it, also where memory ran out.
     ghost moves: { LengthUnit → List ℕ → Reply → Self → Self → Type 0 };
 
-    /// The reply to an export of a source whose lengths are in a unit, which is never that of want of memory. The source
+    /// The reply to an export of a source whose lengths are in a unit, which is never that of memory that ran out. The source
     /// has at most 4,198,400 bytes: no session has a longer one. An exporter is asked at most 8,192 times, for one client.
     fn export(&mut self, alloc: Global, unit: Unit, source: &[u8]) -> Result<Reply, NoMemory>
         requires short { length source.now ≤ 4198400 }

@@ -1,4 +1,4 @@
-//! Serves the clients of a script, each by a session and an exporter of its own.
+//! Serves the clients of a script, each with a session and an exporter of its own.
 #![tactic(auto)]
 
 mod client;

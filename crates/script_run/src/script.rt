@@ -9,13 +9,13 @@ ghost use Rattle.script_run.specs.Serving.{AreWaiting, replies_of};
 
 use crate::exporter::Exporter;
 use crate::served::{ClientService, ServedClient};
-use pair_work::work_each;
+use parallel_zip::work_each;
+use plain_text::NoMemory;
 use plane_predicate::Unit;
 use reply_text::Replies;
 use script_reader::{ClientScript, Script};
 use std::alloc::Global;
 use std::thread::Threads;
-use text_place::NoMemory;
 
 // Each client with its commands, and room for one reply a command.
 fn waiting(alloc: Global, clients: &[ClientScript]) -> Result<Vec<ServedClient<'_>>, NoMemory>
@@ -46,8 +46,9 @@ fn taken(clients: Vec<ServedClient<'_>>, room: Vec<Replies>) -> Vec<Replies>
 
 /// The replies to the commands of each client, in the clients' order, with the lengths of sources in a unit. Each client is
 /// served by an exporter of its own, in a thread of its own where one can be started: the first exporters, in order, and the
-/// others stay as they are. An exporter is asked for no source that its client's own commands may not export. The room for one reply a command is taken before any command is done: so a command for which memory
-/// runs out is answered so, and its session stays as it was.
+/// others stay as they are. An exporter is asked for no source that its client's own commands may not export. The room for one
+/// reply a command is taken before any command is done: so a command for which memory runs out is answered so, and its session
+/// stays as it was.
 pub fn run_script<E: Exporter + Send, R: Threads + Sync>(
     rt: &R,
     alloc: Global,

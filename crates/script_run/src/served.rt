@@ -7,7 +7,7 @@ ghost use Rattle.script_run.specs.Serving.{HasRoomForReplies, IsServed};
 
 use crate::client::serve_client;
 use crate::exporter::Exporter;
-use pair_work::PairWork;
+use parallel_zip::PairWork;
 use plane_predicate::Unit;
 use reply_text::Reply;
 use script_reader::Command;

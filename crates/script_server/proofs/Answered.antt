@@ -1,6 +1,6 @@
 -- A source that means a tree is answered by the tree's export, and its joins are asked for.
 use Rattle.std.proofs.Common.{◌≡◌, ◌+◌, ◌≤◌, inr, ℕ, List, Ok, Err, refl, sym, subst}
-use Rattle.text_place.specs.declared.memory.NoMemory.{NoMemory}
+use Rattle.plain_text.specs.declared.memory.NoMemory.{NoMemory}
 use Rattle.plane_predicate.specs.declared.unit.Unit.{Unit as LengthUnit}
 use Rattle.csg_tree.specs.HalfSpaceTrees.{Tree}
 use Rattle.csg_tree.specs.Numberings.{nodes_of}

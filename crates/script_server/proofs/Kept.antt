@@ -3,7 +3,7 @@ use Rattle.std.proofs.Common.{◌≡◌, true, subst}
 use Rattle.plane_predicate.specs.declared.unit.Unit.{Unit as LengthUnit}
 use Rattle.csg_tree.specs.HalfSpaceTrees.{Tree}
 use Rattle.csg_tree.specs.Numberings.{is_same_tree}
-use Rattle.csg_tree.proofs.Sameness.{tree_true}
+use Rattle.csg_tree.proofs.lemmas.Sameness.{tree_true}
 use Rattle.tree_export.specs.declared.export.TreeExport.{TreeExport}
 use Rattle.tree_export.specs.Exports.{IsExported, IsBoundaryText}
 

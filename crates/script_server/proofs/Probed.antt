@@ -2,10 +2,11 @@
 use Rattle.std.proofs.Common.{◌≡◌, ℕ, ◌+◌, ◌^◌, ◌<◌, ◌≤◌, Result, Ok, Err, IfOk, OnErr, refl, subst, arith}
 use Rattle.std.specs.Prelude.{IsOk}
 use Rattle.std.specs.declared.sync.Arc.{Arc}
-use Rattle.text_place.specs.declared.memory.NoMemory.{NoMemory}
+use Rattle.plain_text.specs.declared.memory.NoMemory.{NoMemory}
 use Rattle.subtree_memo.specs.Shares.{ShareView, probes_of, offers_of}
-use Rattle.reply_text.specs.declared.reply.PassedLimit.{PassedLimit as Limit}
-use Rattle.reply_text.specs.Sums.{IsSizeLimit, IsSolvedReply}
+use Rattle.export_limits.specs.declared.passed.PassedLimit.{PassedLimit as Limit}
+use Rattle.export_limits.specs.Limits.{IsSizeLimit}
+use Rattle.reply_text.specs.Sums.{IsSolvedReply}
 use Rattle.tree_export.specs.declared.export.TreeExport.{TreeExport}
 use Rattle.tree_export.specs.declared.export.TreeExport.TheVariants as exported
 use Rattle.parallel_eval.specs.Joins.{AreAsked}
@@ -40,7 +41,7 @@ asked_of_memo done n share share' count count' asked few =
       });
     }
 
--- what is told of an export whose solid passed a limit of size
+-- what the contract says about an export whose solid passed a limit of size
 abbrev pub Stopped : {T E : Type 0} → Result T E → Result TreeExport NoMemory → Type 0
 Stopped made out = OnErr made (IfOk out (λ o. (passed : Limit) × IsSizeLimit passed × (o ≡ exported.PassedLimit passed)))
 

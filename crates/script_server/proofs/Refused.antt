@@ -1,7 +1,7 @@
 -- A source that has no tree is answered by its fault, and no solid is asked for.
 use Rattle.std.proofs.Common.{◌≡◌, ◌+◌, ◌≤◌, ◌⊎◌, inl, inr, ℕ, List, Ok, Err, refl, arith}
 use Rattle.text_place.specs.declared.fault.Fault.{Fault}
-use Rattle.text_place.specs.declared.memory.NoMemory.{NoMemory}
+use Rattle.plain_text.specs.declared.memory.NoMemory.{NoMemory}
 use Rattle.plane_predicate.specs.declared.unit.Unit.{Unit as LengthUnit}
 use Rattle.csg_tree.specs.HalfSpaceTrees.{Tree}
 use Rattle.csg_tree.specs.Numberings.{nodes_of}

@@ -1,6 +1,6 @@
 -- A source means a tree or has a first fault, and then its export has a reply.
 use Rattle.std.proofs.Common.{◌≡◌, true, ℕ, List, ◌⊎◌, inl, inr, refl}
-use Rattle.text_place.specs.declared.fault.Place.{Place}
+use Rattle.plain_text.specs.declared.place.Place.{Place}
 use Rattle.text_place.specs.declared.fault.Fault.{Fault}
 use Rattle.text_place.specs.declared.fault.FaultKind.{FaultKind}
 use Rattle.plane_predicate.specs.declared.unit.Unit.{Unit as LengthUnit}

@@ -15,12 +15,13 @@ use Rattle.script_reader.specs.declared.script.ClientScript.{ClientScript}
 use Rattle.edit_session.specs.declared.fault.SessionFault.{SessionFault}
 use Rattle.edit_session.specs.declared.fault.SessionFault.TheVariants.{TooManyExports}
 use Rattle.edit_session.specs.Sessions.{State, start_state, source_of, refusal, state_after_accepted, state_after_command}
-use Rattle.reply_text.specs.declared.reply.PassedLimit.{PassedLimit}
-use Rattle.reply_text.specs.declared.reply.PassedLimit.TheVariants as limit
+use Rattle.export_limits.specs.declared.passed.PassedLimit.{PassedLimit}
+use Rattle.export_limits.specs.declared.passed.PassedLimit.TheVariants as limit
 use Rattle.reply_text.specs.declared.reply.Reply.{Reply}
 use Rattle.reply_text.specs.declared.reply.Reply.TheVariants as reply
 use Rattle.reply_text.specs.Answers.{state_after}
-use Rattle.reply_text.specs.Sums.{IsSizeLimit, IsSolvedReply, AreSolvedReplies, AllAreSolved, ComesTo, SumTo, AllSumTo}
+use Rattle.export_limits.specs.Limits.{IsSizeLimit}
+use Rattle.reply_text.specs.Sums.{IsSolvedReply, AreSolvedReplies, AllAreSolved, ComesTo, SumTo, AllSumTo}
 use Rattle.script_run.specs.Moves.{MovesAlong, AllMove}
 use Rattle.script_server.specs.Books.{HasJoins, HasJoinsAsked, HasJoinsSolved, TallyAddsUp}
 use Rattle.script_server.specs.Clients.{ClientBooks, Probes}
@@ -98,8 +99,9 @@ exports_kept s c reply.NoMem other = refl
 exports_kept s c (reply.Text lines) other = next_kept s c other
 exports_kept s c (reply.Solid bytes) other = next_kept s c other
 
--- What was probed and offered on one share: at least and at most so many probes, where the exports that lack no solid have at most
--- 2^32 each. Where none lacks its solid, both numbers are one, and as many fills were offered as there were misses.
+-- What was probed and offered on one share: at least and at most the given number of probes, where the exports that lack no
+-- solid have at most 2^32 each. Where none lacks its solid, both numbers are one, and as many fills were offered as there were
+-- misses.
 record IsAdded (solved : Type 0) (least most before : ℕ) (old new : ShareView) : Type 0 where
   pub low : probes_of old + least ≤ probes_of new
   pub high : probes_of new ≤ probes_of old + most

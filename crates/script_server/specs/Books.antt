@@ -1,4 +1,4 @@
--- What is told of a memo at the end of a run.
+-- What the tally says about a memo at the end of a run.
 use Rattle.std.specs.Prelude.{◌≡◌, ℕ, ◌≤◌, zero, suc, List, [], ◌∷◌, ◌++◌, ◌⊎◌, length, All, Some, slice_get}
 use Rattle.std.specs.List.{AllByRecursion}
 use Rattle.text_place.specs.declared.fault.Fault.{Fault}
@@ -42,7 +42,7 @@ OffersSize tree (FillAnswer weight kept evicted) = weight ≡ size (solid_of tre
 abbrev pub OfferSizes : List (JournalRecord Tree) → Type 0
 OfferSizes items = AllByRecursion (λ i. OffersSize i.key i.answer) items
 
--- what the entries of the first so many callers weigh
+-- what the entries of the first n callers weigh
 abbrev pub weights_of : ℕ → List (EntryHeader Tree) → List ℕ
 weights_of zero marks = []
 weights_of (suc n) marks = weights_of n marks ++ owner_weight header_itself n marks ∷ []

@@ -1,6 +1,6 @@
 -- What contracts see of a client, and what an export makes of it.
 use Rattle.std.specs.Prelude.{◌≡◌, ℕ, ◌+◌, ◌^◌, ◌<◌, ◌≤◌, List, Result, Ok, Err, IfOk}
-use Rattle.text_place.specs.declared.memory.NoMemory.{NoMemory}
+use Rattle.plain_text.specs.declared.memory.NoMemory.{NoMemory}
 use Rattle.plane_predicate.specs.declared.unit.Unit.{Unit as LengthUnit}
 use Rattle.csg_tree.specs.HalfSpaceTrees.{Tree}
 use Rattle.csg_tree.specs.Numberings.{nodes_of}

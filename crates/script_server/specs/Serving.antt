@@ -113,7 +113,7 @@ StatusTells words s NoMemory =
     s.sink.same ⊎ ((settings : Settings) × ChoosesAlone words settings × IsRun settings × WritesPartOfOutput settings s)
 
 -- A source that failed ends a call as a read fault, and a sink that failed as a write fault: at another status no count of
--- faults rose. So want of memory is never told for either.
+-- faults rose. So running out of memory is never reported for either.
 pub record HaveStatusCauses (s : StreamChanges) (status : Status) : Type 0 where
   pub read : HasStatusCause ReadFault s.source.before s.source.now status
   pub written : HasStatusCause WriteFault s.sink.before s.sink.now status

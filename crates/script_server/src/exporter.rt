@@ -78,7 +78,7 @@ impl<B: FlightBooks + AskPolicy<TreeKey>> Booking for Client<B> {
     ghost may_ask = { B.may_ask };
 }
 
-// So many builders, which have built nothing.
+// The given number of builders, which have built nothing.
 fn builders(alloc: Global, count: u64) -> Result<Vec<PlainBuilder>, NoMemory>
     ensures many { IfOk result (λ v. length v.items ≡ count) }
     ensures few { IfOk result (λ v. All (λ b. b ≤ 2 ^ 46) v.items) }
@@ -91,7 +91,7 @@ fn builders(alloc: Global, count: u64) -> Result<Vec<PlainBuilder>, NoMemory>
 }
 
 impl<B: FlightBooks> Client<B> {
-    /// A client for which no solid was asked yet, with so many workers and a share on which no fill is booked.
+    /// A client for which no solid was asked yet, with the given number of workers and a share on which no fill is booked.
     pub fn new(share: FlightShare<B>, workers: Workers) -> Self
         requires share { (share.share.parts ≡ parts_each) × (offers_of share.share ≡ 0) }
         ensures { result ≡ record { asked = 0; share = share.share } }
@@ -123,7 +123,7 @@ impl<B: FlightBooks> Client<B> {
     }
 }
 
-// A store with what the last one knows of it, or else with names that so many workers make.
+// A store with what the last one knows of it, or else with names that the given number of workers make.
 fn known<R: Threads + Sync>(
     rt: &R,
     alloc: Global,
@@ -144,12 +144,12 @@ fn key_of(store: &KnownStore) -> Result<TreeKey, NoMemory>
     requires { 0 < length store.now }
     ensures { (tree : Tree) → store.now ≡ nodes_of tree → IfOk result (λ key. key ≡ tree) }
 {
-    // Brings a law alone: a tree's last node is the tree.
+    // Called for its law; does nothing when it runs: a tree's last node is the tree.
     last_nodes_are_trees();
     store.key(store.store().len())
 }
 
-// The solid of a store for a client by so many builders. The client keeps the store for its next one.
+// The solid of a store for a client by the given number of builders. The client keeps the store for its next one.
 #[tactic(auto, using(crate::proofs::Probed::asked_of_memo, crate::proofs::Probed::unasked))]
 fn solid_for<
     'a,
@@ -185,7 +185,7 @@ fn solid_for<
     made
 }
 
-// The export of a tree for a client, by so many workers.
+// The export of a tree for a client, by the given number of workers.
 #[tactic(auto, using(crate::proofs::Probed::export_probed, crate::proofs::Probed::unasked, crate::proofs::Probed::none_asked))]
 fn exported<
     'a,
@@ -215,7 +215,8 @@ fn exported<
         client.old.share client.new.share }
     ensures asked { client.new.asked ≤ client.old.asked + 1 }
 {
-    // Brings a law alone: a tree's last node is the tree, and a tree without nodes has the empty solid.
+    // Called for its law; does nothing when it runs: a tree's last node is the tree, and a tree without nodes has the
+    // empty solid.
     last_nodes_are_trees();
     let store = nodes_of_tree(builds.alloc, tree)?;
     if store.len() == 0 {
@@ -242,7 +243,8 @@ fn refused(stop: Stop) -> Result<Reply, NoMemory>
     ensures { (unit : LengthUnit) (source : List ℕ) (books : ClientBooks)
         → RefusesSource unit source stop → ExportsFor unit source result books books }
 {
-    // Brings a law alone: each source has a number of joins, also where there was no memory for its tree.
+    // Called for its law; does nothing when it runs: each source has a number of joins, also where there was no memory
+    // for its tree.
     some_meaning();
     match stop {
         Stop::Fault(fault) => Ok(Reply::Faulted(fault)),
@@ -250,7 +252,7 @@ fn refused(stop: Stop) -> Result<Reply, NoMemory>
     }
 }
 
-// The reply to the export of a client's source, by so many workers.
+// The reply to the export of a client's source, by the given number of workers.
 fn answer<
     'a,
     N: Namer<TreeKey> + Send + Sync,
@@ -274,7 +276,7 @@ fn answer<
     requires allowed { MayAskFor unit (H.may_ask client.old.share.caller) source.now }
     ensures { ExportsFor unit source.now result client.old client.new }
 {
-    // Brings a law alone: the text that bounds the tree of a source is watertight.
+    // Called for its law; does nothing when it runs: the text that bounds the tree of a source is watertight.
     texts_of_sources_are_watertight();
     match tree_of(builds.alloc, unit, source) {
         Ok(tree) => Ok(reply(exported(builds, client, workers, unit, &tree)?)),

@@ -2,8 +2,8 @@
 
 ghost use Rattle.std.specs.Prelude.{◌≡◌, Ok, IfOk, IfSome, OnErr};
 ghost use Rattle.csg_tree.specs.ProperTrees.{IsProper};
-ghost use Rattle.reply_text.specs.declared.reply.PassedLimit.{PassedLimit as Limit};
-ghost use Rattle.reply_text.specs.Sums.{IsSizeLimit};
+ghost use Rattle.export_limits.specs.declared.passed.PassedLimit.{PassedLimit as Limit};
+ghost use Rattle.export_limits.specs.Limits.{IsSizeLimit};
 ghost use Rattle.tree_export.specs.declared.export.TreeExport.TheVariants as exported;
 ghost use Rattle.tree_export.specs.Exports.{IsExported, IsBoundaryText, IsSolidOutcome};
 
@@ -124,9 +124,9 @@ fn given_or_made<R: Threads + Sync>(
     }
 }
 
-/// The export of a tree from the solid that was made of it or the first node that passed a limit of size, as `export_made` gives
-/// it, by so many workers. Where the same was kept, its facets and its text aren't made anew. Afterwards it is kept itself, where it is a text of at most
-/// 4 MiB and there is memory for a copy.
+/// The export of a tree from the solid that was made of it or the first node that passed a limit of size, as `export_made`
+/// gives it, by the given number of workers. Where the same was kept, its facets and its text aren't made anew. Afterwards it
+/// is kept itself, where it is a text of at most 4 MiB and there is memory for a copy.
 pub fn export_kept<R: Threads + Sync>(
     rt: &R,
     alloc: Global,

@@ -1,4 +1,4 @@
-//! The server: one script in, the replies of its clients out, and what an export is answered.
+//! The server: it reads one script, writes the replies of its clients, and defines the answer to each export.
 #![tactic(auto)]
 
 mod export;
@@ -12,7 +12,7 @@ mod under_way;
 
 pub use meaning::{
     one_meaning, one_output, one_reply, own_replies, solids_pass_no_limit, some_meaning,
-    some_reply, texts_of_sources_are_watertight,
+    some_reply, texts_of_sources_are_watertight, the_rule_gives_the_meaning,
 };
 pub use program::{run_program, serve_streams, serve_to_exit};
 pub use run_words::{Settings, WordsFault, read_words};

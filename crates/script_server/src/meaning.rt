@@ -20,7 +20,8 @@ ghost use Rattle.tree_export.specs.Exports.{PassesNoLimit};
 ghost use Rattle.script_server.specs.Meaning.Sources.{Means, HasSourceFault};
 ghost use Rattle.script_service.specs.Units.{unit_of};
 ghost use Rattle.script_service.specs.Serving.{IsRun, printed_text};
-ghost use Rattle.script_server.specs.Meaning.Exports.{AnswersSource, AnswersExport, IsWatertightBoundary};
+ghost use Rattle.script_server.specs.Meaning.Exports.{AnswersSource, AnswersMeaning, AnswersExport};
+ghost use Rattle.script_server.specs.Meaning.Exports.{IsWatertightBoundary};
 ghost use Rattle.script_server.specs.Serving.{TellsAlike};
 
 use reply_text::Exporting;
@@ -51,7 +52,7 @@ pub fn one_meaning()
     ensures either { (unit : LengthUnit) (source : List ℕ) (f : Tree) (fault : Fault)
         → Means unit source f → HasSourceFault unit source fault → ⊥ }
 {
-    // Each call brings a law alone.
+    // Each call is for its law, and does nothing when it runs.
     one_outcome();
     one_program_each();
     no_program_has_a_fault();
@@ -65,7 +66,7 @@ pub fn some_meaning()
         → ((tree : Tree) × Means unit source tree)
         ⊎ ((fault : Fault) × HasSourceFault unit source fault) }
 {
-    // Each call brings a law alone.
+    // Each call is for its law, and does nothing when it runs.
     some_outcome();
     program_or_fault();
     scad_meaning::some_meaning();
@@ -77,7 +78,7 @@ pub fn solids_pass_no_limit()
         ((bytes : List ℕ) × (r ≡ reply.Solid bytes))
         ↔ ((f : Tree) × Means unit source f × PassesNoLimit unit f) }
 {
-    // Each call brings a law alone.
+    // Each call is for its law, and does nothing when it runs.
     one_meaning();
     texts_pass_no_limit();
 }
@@ -87,7 +88,7 @@ pub fn one_reply()
     ensures { (unit : LengthUnit) (source : List ℕ) (r q : Reply) → AnswersSource unit source r
         → AnswersSource unit source q → r ≡ q }
 {
-    // Each call brings a law alone.
+    // Each call is for its law, and does nothing when it runs.
     one_meaning();
     one_export();
 }
@@ -97,7 +98,7 @@ pub fn texts_of_sources_are_watertight()
     ensures { (unit : LengthUnit) (source : List ℕ) (tree : Tree) (bytes : List ℕ) →
         Means unit source tree → IsBoundary unit bytes tree → IsWatertightBoundary unit bytes tree }
 {
-    // Each call brings a law alone.
+    // Each call is for its law, and does nothing when it runs.
     programs_mean_proper_trees();
     programs_keep_within_reach();
     texts_keep_within_reach();
@@ -107,11 +108,22 @@ pub fn texts_of_sources_are_watertight()
 pub fn some_reply()
     ensures { (unit : LengthUnit) (source : List ℕ) → (r : Reply) × AnswersExport unit source r }
 {
-    // Each call brings a law alone.
+    // Each call is for its law, and does nothing when it runs.
     some_meaning();
     programs_mean_proper_trees();
     texts_of_sources_are_watertight();
     some_export();
+}
+
+/// The rule alone suffices: the reply that it chooses says what the source means. So a text that it chooses is the watertight
+/// boundary of the tree.
+pub fn the_rule_gives_the_meaning()
+    ensures { (unit : LengthUnit) (source : List ℕ) (r : Reply) →
+        AnswersSource unit source r → AnswersMeaning unit source r }
+{
+    // Each call brings a law alone.
+    one_reply();
+    some_reply();
 }
 
 /// A client's own commands define its replies: only the places at which memory ran out are open.
@@ -120,7 +132,7 @@ pub fn own_replies()
         Fits (AnswersExport unit) s cs rs → Fits (AnswersExport unit) s cs qs → SameWants rs qs →
         rs ≡ qs }
 {
-    // Each call brings a law alone.
+    // Each call is for its law, and does nothing when it runs.
     one_reply();
     reply_text::own_replies::<ServerExports>();
 }
@@ -140,7 +152,7 @@ pub fn one_output()
         printed_text settings clients rs s v ≡ printed_text settings clients qs t w
         → (rs ≡ qs) × TellsAlike settings s t v w }
 {
-    // Each call brings a law alone.
+    // Each call is for its law, and does nothing when it runs.
     one_reply();
     reply_text::one_output::<ServerExports>();
     one_ending();

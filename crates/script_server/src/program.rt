@@ -63,8 +63,8 @@ fn serve_words<S: Source, K: Sink, R: Threads + Wait + Sync>(
     }
 }
 
-/// All that the program does with its words, its source and its sink: it serves the words, or tells why there are none, and ends
-/// with the number of what came of that.
+/// All that the program does with its words, its source and its sink: it serves the words, or tells why there are none, and
+/// ends with the number of what came of that.
 pub fn serve_to_exit<S: Source, K: Sink, R: Threads + Wait + Sync>(
     rt: &R,
     alloc: Global,

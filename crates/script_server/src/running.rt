@@ -16,6 +16,7 @@ use crate::under_way::{UnderWay, Workers};
 use csg_tree::TreeKey;
 use flight_memo::{Claims, Flight, FlightBlanks, FlightBooks, FlightLedgers, FlightShare};
 use memo_core::{MemoCore, Namer};
+use memo_shares::owned;
 use parallel_eval::{Builds, Gate, OpenGate, ShaNamer, SolidFit};
 use plane_predicate::Unit;
 use reply_text::{Replies, Reply};
@@ -39,7 +40,7 @@ pub struct RunResult<N: Namer<TreeKey>> {
     pub claims: Claims<SolidFit>,
 }
 
-// What the entries of each of the first so many callers of a memo weigh.
+// What the entries of each of the first n callers of a memo weigh.
 fn weights(
     alloc: Global,
     core: &MemoCore<SolidFit, ShaNamer>,
@@ -51,12 +52,12 @@ fn weights(
 {
     let mut weights = Vec::new(alloc);
     for caller in 0..callers {
-        weights.push(core.weight_of(caller))?;
+        weights.push(owned(core, caller))?;
     }
     Ok(weights)
 }
 
-/// What the entries of each of the first so many callers of a memo weigh, where the settings have it printed. Where they don't,
+/// What the entries of each of the first n callers of a memo weigh, where the settings have it printed. Where they don't,
 /// no memory is asked for.
 pub fn printed_weights(
     alloc: Global,
@@ -153,13 +154,14 @@ fn run_over<
         × (blanks.callers ≡ H.callers) }
     requires ledgers { IsBlankLedger H.name H.parts blanks.hits × IsBlankLedger M.name M.parts blanks.misses
         × IsBlankLedger K.name K.parts blanks.kept × IsBlankLedger E.name E.parts blanks.heavy }
-    requires claims { IsBlankLedger S.name S.parts claims.begun × IsBlankLedger T.name T.parts claims.ended }
+    requires claims { IsBlankLedger S.name S.parts claims.begun × IsBlankLedger T.name T.parts claims.held }
     requires policy { (caller : ℕ) (key : Tree) →
         H.may_ask caller key ↔ IsAskedBy unit script.now.clients caller key }
     ensures { IfOk result (λ ran. IsRunOf unit script.now.clients core.budget core.share N.name_of
         ran.replies.items ran.tally ran.core ran.claims) }
 {
-    // Brings a law alone: each source has a number of joins. So an export counts where no memory was left for its tree, too.
+    // Called for its law; does nothing when it runs: each source has a number of joins. So an export counts where no
+    // memory was left for its tree, too.
     some_meaning();
     // All room is taken before the memo opens, and nothing can fail between the claims' opening and their closing: so no way
     // out of this function drops an open memo, whose many types it would prove the drop of.
@@ -198,10 +200,10 @@ fn run_over<
     })
 }
 
-/// Runs the clients of a script over one memo of this budget and share with these names. An export has so many builders at
-/// most: those that are under way share them, and each has one at least. Each build of each client enters the gate first, with
-/// the client's number from 0; where it is refused, the export is answered as for want of memory. Where the whole has no memory
-/// to begin with, nothing is answered.
+/// Runs the clients of a script over one memo of this budget and share with these names. An export has the given number of
+/// builders at most: those that are under way share them, and each has one at least. Each build of each client enters the gate
+/// first, with the client's number from 0; where it is refused, the export is answered as if memory ran out. Where the whole
+/// has no memory to begin with, nothing is answered.
 pub fn run_named<N: Namer<TreeKey> + Send + Sync, G: Gate + Sync, R: Threads + Wait + Sync>(
     rt: &R,
     alloc: Global,

@@ -97,8 +97,8 @@ pub fn serve<S: Source, K: Sink, R: Threads + Wait + Sync>(
     ensures told { StatusTells (map string_bytes words.now)
         (stream_changes S.left S.faults K.held K.faults source.old source.new sink.old sink.new)
         result }
-    // At words outside the grammar, and for the demonstration, nothing is read, and else no more than a script may have, and one
-    // read more.
+    // At words outside the grammar, and for the demonstration, nothing is read, and else no more than a script may have, and
+    // one read more.
     ensures reads { ReadsAsAsked (map string_bytes words.now)
         (stream_change S.left S.faults source.old source.new) }
     // A source that failed is told as that, and so is a sink. The counts of their faults never fall.
@@ -116,7 +116,7 @@ pub fn serve<S: Source, K: Sink, R: Threads + Wait + Sync>(
     ensures no_script { AskForRun (map string_bytes words.now)
         → IfSome (S.left source.old) (λ bytes. IsNoScript bytes → result ≢ Status.Done) }
 {
-    // Brings a law alone: bytes are one script, or none.
+    // Called for its law; does nothing when it runs: bytes are one script, or none.
     bytes_are_one_script();
     let settings = match read_words(alloc, words) {
         Ok(settings) => settings,

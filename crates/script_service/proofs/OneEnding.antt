@@ -3,10 +3,10 @@ use Rattle.std.proofs.Common.{◌≡◌, ℕ, ◌<◌, Bool, true, if◌then◌e
 use Rattle.std.proofs.lemmas.Bool.Decides.{nat_tests}
 use Rattle.std.specs.Prelude.{IsFalse}
 use Rattle.std.proofs.lemmas.List.{append_cancel_left}
-use Rattle.text_place.specs.Decimals.{numeral, begins_with_digit}
+use Rattle.plain_text.specs.Decimals.{numeral, begins_with_digit}
 use Rattle.subtree_memo.specs.declared.tally.Tally.{Tally}
 use Rattle.script_reader.specs.declared.script.ClientScript.{ClientScript}
-use Rattle.text_place.specs.Separators.{newline}
+use Rattle.plain_text.specs.Separators.{newline}
 use Rattle.script_service.specs.Endings.{probe_words, fill_words, tally_line, share_line, share_lines, ending}
 
 abbrev pub OneNumeral : Type 0

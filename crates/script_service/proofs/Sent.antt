@@ -1,12 +1,12 @@
 -- What was written in several steps.
 use Rattle.std.proofs.Common.{◌≡◌, ◌⊎◌, ⊎_elim, inl, inr, ℕ, ◌<◌, ◌≤◌, List, [], ◌∷◌, ◌++◌, length, sym, ap, ◌∙◌, subst, arith, append-nil, append_assoc, length-append, refl, suc, ◌+◌, drop, get_or, drop-cons, add-one, codes}
-use Rattle.text_place.specs.Separators.{newline}
+use Rattle.plain_text.specs.Separators.{newline}
 use Rattle.std.proofs.KnownBytes.{Appends-trans}
 use Rattle.std.specs.Prelude.{Option, Some, None, Result, Ok, Err, IfErr, OnOk, All}
 use Rattle.std.specs.Io.KnownBytes.{Appends}
 use Rattle.outside_io.specs.Moves.{AppendsProperPrefix}
 use Rattle.std.proofs.lemmas.List.Elements.{All-tail}
-use Rattle.text_place.specs.Decimals.{numeral}
+use Rattle.plain_text.specs.Decimals.{numeral}
 use Rattle.script_reader.specs.declared.script.ClientScript.{ClientScript}
 use Rattle.reply_text.specs.declared.reply.Reply.{Reply}
 use Rattle.reply_text.specs.declared.reply.Reply.TheVariants as reply

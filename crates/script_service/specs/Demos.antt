@@ -3,7 +3,7 @@ use Rattle.std.specs.Prelude.{ℕ, ◌==◌, Bool, true, false, if◌then◌else
 use Rattle.sha2.specs.Sha256.{sha256}
 use Rattle.hex.specs.Hex.{encode_lower}
 use Rattle.script_reader.specs.declared.script.ClientScript.{ClientScript}
-use Rattle.text_place.specs.Separators.{newline}
+use Rattle.plain_text.specs.Separators.{newline}
 use Rattle.reply_text.specs.declared.reply.Reply.{Reply}
 use Rattle.reply_text.specs.declared.reply.Reply.TheVariants as reply
 use Rattle.reply_text.specs.Parts.{first_words}
@@ -32,7 +32,7 @@ abbrev pub solid_words : List ℕ → List ℕ
 solid_words text =
     codes " facets " ++ face_count text ++ codes " vertices " ++ vertex_count text ++ codes " sha256 " ++ encode_lower (sha256 text)
 
--- what is told of an export: of a solid its counts and the digest of its text, and else its first line
+-- the report on an export: for a solid its counts and the digest of its text, and else its first line
 abbrev pub export_words : Reply → List ℕ
 export_words (reply.Solid text) = solid_words text
 export_words r = first_words r
@@ -43,7 +43,7 @@ wants_memory [] = false
 wants_memory (reply.NoMem ∷ rs) = true
 wants_memory (r ∷ rs) = wants_memory rs
 
--- what is told of the last reply, which is that of the export
+-- the report on the last reply, which is that of the export
 abbrev pub last_words : List Reply → List ℕ
 last_words [] = []
 last_words (r ∷ []) = export_words r

@@ -1,9 +1,9 @@
 -- The lines behind the replies of a run: what the memo counts in all, and what each client's entries weigh.
 use Rattle.std.specs.Prelude.{ℕ, Bool, nat_lt, if◌then◌else◌, List, [], ◌∷◌, ◌++◌, codes}
-use Rattle.text_place.specs.Decimals.{numeral}
+use Rattle.plain_text.specs.Decimals.{numeral}
 use Rattle.subtree_memo.specs.declared.tally.Tally.{Tally}
 use Rattle.script_reader.specs.declared.script.ClientScript.{ClientScript}
-use Rattle.text_place.specs.Separators.{newline}
+use Rattle.plain_text.specs.Separators.{newline}
 
 -- the numbers of probes of a tally
 abbrev pub probe_words : Tally → List ℕ

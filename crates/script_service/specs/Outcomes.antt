@@ -40,17 +40,17 @@ PrintsReplies settings sink text status =
     WritesTextOrNothing Done sink text status ⊎ (IsRun settings × (status ≡ NoMemory) × AppendsPart sink.old sink.new text)
 
 -- The count of faults never falls, and it stays where the status is not that of a fault: so a source or a sink that failed is
--- never told as want of memory.
+-- never reported as running out of memory.
 pub record HasStatusCause (fault : Status) (before now : ℕ) (status : Status) : Type 0 where
   pub later : before ≤ now
   pub quiet : (status ≡ fault) ⊎ (now ≡ before)
 
--- what is told of words that choose nothing: words outside the grammar are told without memory
+-- the message for words that choose nothing: words outside the grammar are reported without memory
 abbrev pub RefusesWords : WordsFault → StreamChange → Status → Type 0
 RefusesWords words.BadWords sink status = Writes BadWords sink usage_line status
 RefusesWords words.NoMemory sink status = (status ≡ NoMemory) × sink.same
 
--- what is told of an input that is no script
+-- the message for an input that is not a script
 abbrev pub RefusesInput : InputEnd → StreamChange → Status → Type 0
 RefusesInput (end.BadScript fault) sink status = WritesTextOrNothing BadScript sink (script_fault_line fault) status
 RefusesInput end.Failed sink status = (status ≡ ReadFault) × sink.same

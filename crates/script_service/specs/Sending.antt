@@ -14,7 +14,7 @@ module _ {K : Type 0} (held : K → Option (List ℕ)) where
       (front : List ℕ) × (front ++ left ≡ text) × Appends (held old) (held new) front
       × ((new ≡ old) ⊎ (0 < length front))
 
-  -- a prefix of the text was appended, and not the whole: after want of memory the sink is as it was where the prefix
+  -- a prefix of the text was appended, and not the whole: after memory ran out the sink is as it was where the prefix
   -- has no bytes
   abbrev pub IsCutOff : K → K → List ℕ → OutputEnd → Type 0
   IsCutOff old new text Failed = AppendsProperPrefix (held old) (held new) text

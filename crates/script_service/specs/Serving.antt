@@ -11,7 +11,7 @@ use Rattle.big_input.specs.DemoScript.{demo_script}
 use Rattle.script_reader.specs.declared.script.ClientScript.{ClientScript}
 use Rattle.script_reader.specs.declared.script.Script.{Script}
 use Rattle.script_reader.specs.declared.script.ScriptFault.{ScriptFault}
-use Rattle.text_place.specs.Separators.{newline}
+use Rattle.plain_text.specs.Separators.{newline}
 use Rattle.script_reader.specs.Scripts.{IsScript, IsScriptFault}
 use Rattle.reply_text.specs.declared.reply.Reply.{Reply}
 use Rattle.reply_text.specs.Texts.{output}

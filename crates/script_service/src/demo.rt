@@ -6,11 +6,11 @@ ghost use Rattle.sha2.specs.Sha256.{sha256};
 ghost use Rattle.hex.specs.Hex.{encode_lower};
 
 use hex::encode;
+use plain_text::NoMemory;
 use reply_text::{Replies, Reply, push_words};
 use script_reader::{ClientScript, split_at_byte};
 use sha2::{Digest, Sha256};
 use std::alloc::Global;
-use text_place::NoMemory;
 
 // The bytes before the first one that is `at`, and those behind it.
 fn cut(bytes: &[u8], at: u8) -> (&[u8], &[u8])
@@ -43,7 +43,7 @@ fn push_digest(alloc: Global, out: &mut Vec<u8>, text: &[u8]) -> Result<(), NoMe
     Ok(())
 }
 
-// Appends what is told of a text.
+// Appends the report on a text.
 fn push_solid(alloc: Global, out: &mut Vec<u8>, text: &[u8]) -> Result<(), NoMemory>
     ensures { OnOk result (out.new.items ≡ out.old.items ++ solid_words text.now) }
 {
@@ -56,7 +56,7 @@ fn push_solid(alloc: Global, out: &mut Vec<u8>, text: &[u8]) -> Result<(), NoMem
     push_digest(alloc, out, text)
 }
 
-// Appends what is told of an export.
+// Appends the report on an export.
 fn push_export(alloc: Global, out: &mut Vec<u8>, reply: &Reply) -> Result<(), NoMemory>
     ensures { OnOk result (out.new.items ≡ out.old.items ++ export_words reply.now) }
 {
@@ -78,7 +78,7 @@ fn is_wanting(replies: &[Reply]) -> bool
     false
 }
 
-// Appends what is told of the last reply.
+// Appends the report on the last reply.
 fn push_last(alloc: Global, out: &mut Vec<u8>, replies: &[Reply]) -> Result<(), NoMemory>
     ensures { OnOk result (out.new.items ≡ out.old.items ++ last_words replies.now) }
 {

@@ -1,13 +1,13 @@
 //! The lines behind the replies of a run.
 
 ghost use Rattle.std.specs.Prelude.{◌≡◌, ◌++◌, IfOk, OnOk};
-ghost use Rattle.text_place.specs.Decimals.{numeral};
+ghost use Rattle.plain_text.specs.Decimals.{numeral};
 ghost use Rattle.script_service.specs.Endings.{probe_words, fill_words, tally_line, share_line, share_lines, ending};
 
+use plain_text::{NoMemory, push_decimal};
 use script_reader::ClientScript;
 use std::alloc::Global;
 use subtree_memo::Tally;
-use text_place::{NoMemory, push_decimal};
 
 // Appends a text and a number.
 fn push_count(alloc: Global, out: &mut Vec<u8>, text: &[u8], count: u64) -> Result<(), NoMemory>

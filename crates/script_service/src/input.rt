@@ -10,10 +10,10 @@ ghost use Rattle.script_service.specs.Serving.{IsRun, AreNoScript, GivesScript, 
 
 use big_input::{demo_scripts_have_no_fault, make_script};
 use outside_io::{ReadEnd, Source, read_to_end};
+use plain_text::NoMemory;
 use run_words::Settings;
 use script_reader::{Script, ScriptFault, read_script};
 use std::alloc::Global;
-use text_place::NoMemory;
 
 // The most bytes of a script.
 const SCRIPT_BYTES: usize = 1_048_576;
@@ -81,7 +81,7 @@ fn make_demo(alloc: Global, parts: u64) -> Result<Script, NoMemory>
     ensures script { IfOk result (IsScript (demo_script parts)) }
     ensures within { IfOk result (λ script. AreClientsWithin script.clients) }
 {
-    // Brings a law alone: the script of a demonstration has no fault.
+    // Called for its law; does nothing when it runs: the script of a demonstration has no fault.
     demo_scripts_have_no_fault();
     let bytes = make_script(alloc, parts as u32)?;
     match read_script(alloc, bytes.as_slice()) {

@@ -5,7 +5,7 @@ ghost use Rattle.subtree_memo.specs.declared.tally.Tally.{Tally};
 ghost use Rattle.script_reader.specs.declared.script.ClientScript.{ClientScript};
 ghost use Rattle.script_service.specs.Endings.{ending};
 
-use text_place::one_numeral;
+use plain_text::one_numeral;
 
 /// The lines behind the replies of a run have one reading: those that are equal are of one tally, and with a
 /// share above 0 of the same weights of the clients' entries.
@@ -17,6 +17,6 @@ pub fn one_ending()
         length v ≡ length clients → length w ≡ length clients →
         ending true share clients s v ≡ ending true share clients t w → v ≡ w }
 {
-    // Brings a law alone: a numeral has one number.
+    // Called for its law; does nothing when it runs: a numeral has one number.
     one_numeral();
 }

@@ -1,6 +1,6 @@
-//! What the program does round the run of its clients: it reads the script, and writes what came of it.
+//! What the program does around the run of its clients: it reads the script, and writes the results.
 //!
-//! What an export is answered, and what a memo counts on the way, is told to it.
+//! Its caller supplies the answers to exports and the counts of the memo.
 #![tactic(auto)]
 
 mod demo;

@@ -2,8 +2,8 @@
 
 ghost use Rattle.std.specs.Prelude.{◌≡◌, ◌<◌, ◌≤◌, ◌⊎◌, ◌++◌, ℕ, List, [], length, All, IfErr, OnOk, OnErr, IsErrOf, codes};
 ghost use Rattle.std.specs.Io.KnownBytes.{Appends};
-ghost use Rattle.text_place.specs.Decimals.{numeral};
-ghost use Rattle.text_place.specs.Separators.{newline};
+ghost use Rattle.plain_text.specs.Decimals.{numeral};
+ghost use Rattle.plain_text.specs.Separators.{newline};
 ghost use Rattle.outside_io.specs.Counts.{CountRose};
 ghost use Rattle.outside_io.specs.Moves.{AppendsProperPrefix};
 ghost use Rattle.reply_text.specs.Texts.{reply_body, replies_text, client_text, output};
@@ -11,10 +11,10 @@ ghost use Rattle.script_service.specs.declared.output.OutputEnd.TheVariants as e
 ghost use Rattle.script_service.specs.Sending.{Sends, IsCutOff, HasOutputCause};
 
 use outside_io::{Failed, Sink, write_all};
+use plain_text::NoMemory;
 use reply_text::{Replies, Reply, push_reply};
 use script_reader::ClientScript;
 use std::alloc::Global;
-use text_place::NoMemory;
 
 // How many bytes are gathered before they are written. A reply's text is gathered whole.
 const BUFFER_BYTES: usize = 65_536;

@@ -4,13 +4,13 @@ use crate::outside::{Asked, CALM, Outside, Served, serve_in, serve_over};
 use crate::serving::{Told, put_end, put_output, put_status};
 use crate::words::words_of;
 use case_lines::{CaseStop, cut, found, put, put_number};
+use plain_text::read_decimal;
 use script_reader::split_at_byte;
 use script_server::Status;
 use std::alloc::Global;
 use std::process::ExitCode;
 use std::sync::Wait;
 use std::thread::Threads;
-use text_place::read_decimal;
 
 #[derive(Clone, Copy)]
 enum Question {
@@ -182,7 +182,7 @@ fn outside_of(question: Question, first: u32, second: u32) -> Outside {
     }
 }
 
-// What is told of the output.
+// The report on the output.
 fn told_of(question: Question, first: u32) -> Told {
     match question {
         Question::Head => Told::First(first as usize),

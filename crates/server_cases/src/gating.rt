@@ -1,9 +1,9 @@
 //! A gate that holds builds or refuses them by a rule.
 
 use parallel_eval::Gate;
+use plain_text::NoMemory;
 use std::sync::{Mutex, Wait};
 use std::thread;
-use text_place::NoMemory;
 
 // The most turns for which a build is held until others were entered.
 const MOST_TURNS: u32 = 100_000_000;
@@ -15,13 +15,13 @@ const TURNS_HELD: u32 = 10_000;
 #[derive(Clone, Copy)]
 pub enum Rule {
     All,
-    /// The first so many.
+    /// The first ones, up to this number.
     First(u64),
-    /// All but the first so many, which are held for some turns.
+    /// All but the first ones, up to this number, which are held for some turns.
     Later(u64),
     /// Those of one node of one client.
     Only { client: u32, node: u32 },
-    /// All, where each of the first so many is held until that many were entered.
+    /// All, where each of the first ones, up to this number, is held until that many were entered.
     Meeting(u64),
 }
 
@@ -50,7 +50,7 @@ impl Gating {
         }
     }
 
-    /// Whether so many builds were entered, and none was held in vain.
+    /// Whether the given number of builds were entered, and none was held in vain.
     pub fn have_met<R: Wait>(&self, rt: &R, count: u64) -> bool {
         let seen = self.seen.lock(rt);
         seen.entered >= count && !seen.gave_up
@@ -63,7 +63,7 @@ impl Gating {
         seen.entered
     }
 
-    // Waits until so many were entered, or gives up.
+    // Waits until the given number were entered, or gives up.
     fn hold<R: Wait>(&self, rt: &R, count: u64) {
         for _turn in 0..MOST_TURNS {
             if self.have_met(rt, count) {

@@ -2,10 +2,10 @@
 
 use crate::words::word_of;
 use case_lines::{CaseStop, put, put_next, put_number, put_numbers};
+use plain_text::NoMemory;
 use script_reader::split_at_byte;
 use script_server::{Settings, WordsFault, read_words};
 use std::alloc::Global;
-use text_place::NoMemory;
 
 // Adds an option; a value behind its `=` has a word of its own where that is asked for.
 fn push_option(

@@ -11,13 +11,13 @@ use csg_tree::TreeKey;
 use flight_memo::LogItem;
 use memo_core::{NAME_BYTES, Name, Namer};
 use parallel_eval::ShaNamer;
+use plain_text::NoMemory;
 use plane_predicate::Unit;
 use script_reader::{Script, ScriptFault, read_script};
 use script_server::run_named;
 use std::alloc::Global;
 use std::sync::Wait;
 use std::thread::Threads;
-use text_place::NoMemory;
 
 // Names all trees alike.
 #[derive(Drop)]
@@ -127,7 +127,7 @@ fn run<R: Threads + Wait + Sync>(
     Ok(ended?)
 }
 
-// What is told of one run.
+// The report on one run.
 fn put_run<R: Threads + Wait + Sync>(
     rt: &R,
     alloc: Global,
@@ -145,7 +145,7 @@ fn put_run<R: Threads + Wait + Sync>(
     put_ended(alloc, out, setting, &ended, plain)
 }
 
-/// What is told of each run of clients: one answer, where it is the same each time.
+/// The report on each run of clients: one answer, where it is the same each time.
 pub fn put_clients<R: Threads + Wait + Sync>(
     rt: &R,
     alloc: Global,

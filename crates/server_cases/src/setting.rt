@@ -4,7 +4,7 @@ use crate::gating::Rule;
 use case_lines::{CaseStop, Phrase, found, phrases_of};
 use std::alloc::Global;
 
-/// How clients are run, and what is told of them.
+/// How clients are run, and the report on them.
 #[derive(Clone, Copy)]
 pub struct Setting {
     pub clients: u8,

@@ -1,11 +1,11 @@
-//! What is told of a run.
+//! The report on a run.
 
 use crate::setting::Setting;
 use case_lines::{CaseStop, put, put_number, put_tally};
+use plain_text::NoMemory;
 use reply_text::{Replies, Reply, push_reply, push_words};
 use std::alloc::Global;
 use subtree_memo::Tally;
-use text_place::NoMemory;
 
 /// What clients were replied, and what became of the memo.
 #[derive(Drop)]
@@ -164,7 +164,7 @@ fn put_probes(alloc: Global, out: &mut Vec<u8>, tally: &Tally) -> Result<(), NoM
     )
 }
 
-/// What is told of a run, beside the same clients without a memo.
+/// The report on a run, beside the same clients without a memo.
 pub fn put_ended(
     alloc: Global,
     out: &mut Vec<u8>,

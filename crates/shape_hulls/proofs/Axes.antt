@@ -1,8 +1,8 @@
 -- Numbers of the axes of a box: the planes of its faces, and the planes that none of its corners is ahead of.
 use Rattle.std.proofs.Common.{◌≡◌, ◌⊎◌, inl, inr, [], ◌∷◌, refl, ap, ◌∙◌, arith, ℤ, pos, ◌+ℤ◌, ◌-ℤ◌, ◌*ℤ◌, ◌<ℤ◌, ◌≤ℤ◌}
-use Rattle.plane_predicate.proofs.IntegerRing.{sums, zero_mul}
-use Rattle.plane_predicate.proofs.Polynomials.{var, num, plus, times, minus, ring}
-use Rattle.plane_predicate.proofs.Signs.{signs, pos_pos, neg_pos, neg_neg, least_most, most_most, least_least, zero_cancel}
+use Rattle.plane_predicate.proofs.lemmas.IntegerRing.{sums, zero_mul}
+use Rattle.plane_predicate.proofs.lemmas.Polynomials.{var, num, plus, times, minus, ring}
+use Rattle.plane_predicate.proofs.lemmas.Signs.{signs, pos_pos, neg_pos, neg_neg, least_most, most_most, least_least, zero_cancel}
 
 -- ---- products
 pub less_parts : (a x y : ℤ) → a *ℤ (x -ℤ y) ≡ a *ℤ x -ℤ a *ℤ y

@@ -2,13 +2,13 @@
 use Rattle.std.proofs.Common.{◌≡◌, ℕ, zero, suc, ◌<◌, Bool, [], ◌∷◌, refl, arith, ℤ, pos, ◌+ℤ◌, ◌-ℤ◌, ◌*ℤ◌, ◌<ℤ◌, ◌≤ℤ◌}
 use Rattle.plane_predicate.specs.declared.unit.Unit.{Unit as LengthUnit}
 use Rattle.plane_predicate.specs.Space.{Coefficients, Coordinates, value}
-use Rattle.plane_predicate.proofs.IntegerRing.{sums}
+use Rattle.plane_predicate.proofs.lemmas.IntegerRing.{sums}
 use Rattle.primitives.specs.Boxes.{box_faces, box_of, box_points, cube_of}
 use Rattle.primitives.specs.Shapes.{mesh_point, IsInside, IsShape}
 use Rattle.primitives.specs.Sizes.{AreSizes}
-use Rattle.primitives.proofs.BoxBodies.{cube_is_shape}
-use Rattle.primitives.proofs.EndFaces.{ends_of_side}
-use Rattle.scad_hull.proofs.Turns.{Bounds}
+use Rattle.primitives.proofs.lemmas.BoxBodies.{cube_is_shape}
+use Rattle.primitives.proofs.lemmas.EndFaces.{ends_of_side}
+use Rattle.scad_hull.proofs.lemmas.Turns.{Bounds}
 use Rattle.shape_hulls.specs.OwnHulls.{IsFaceCorner, IsHullOfItsPoints}
 use Rattle.shape_hulls.proofs.Axes.{bounds_nothing, nothing_at, past_high, past_low, scaled, BoundsCorners, IsWithin}
 use Rattle.shape_hulls.proofs.Insides.{hull_by, none_below}

@@ -4,15 +4,15 @@ use Rattle.std.specs.Ordering.{int_eq}
 use Rattle.std.proofs.lemmas.Bool.Decides.{Decides-int_eq}
 use Rattle.plane_predicate.specs.declared.unit.Unit.{Unit as LengthUnit}
 use Rattle.plane_predicate.specs.Space.{Coefficients, Coordinates, value}
-use Rattle.plane_predicate.proofs.IntegerRing.{sums}
+use Rattle.plane_predicate.proofs.lemmas.IntegerRing.{sums}
 use Rattle.primitives.specs.Shapes.{Mesh, mesh_point, IsInside, IsShape}
 use Rattle.primitives.specs.Sizes.{length_in_grid_steps, high_end, low_end}
 use Rattle.round_four.specs.Cylinders.{cylinder_between, cylinder_of, faces_from_apex, faces_of_two, faces_to_apex, AreCylinderSizes}
-use Rattle.round_four.proofs.Cylinders.{by_apexes, cylinder_is_shape}
-use Rattle.round_four.proofs.FromApex.{from_apex}
-use Rattle.round_four.proofs.Radii.{no_steps, steps_above, steps_least}
-use Rattle.round_four.proofs.ToApex.{to_apex}
-use Rattle.round_four.proofs.TwoCircles.{two}
+use Rattle.round_four.proofs.lemmas.Cylinders.{by_apexes, cylinder_is_shape}
+use Rattle.round_four.proofs.lemmas.FromApex.{from_apex}
+use Rattle.round_four.proofs.lemmas.Radii.{no_steps, steps_above, steps_least}
+use Rattle.round_four.proofs.lemmas.ToApex.{to_apex}
+use Rattle.round_four.proofs.lemmas.TwoCircles.{two}
 use Rattle.shape_hulls.specs.OwnHulls.{IsFaceCorner, IsHullOfItsPoints}
 use Rattle.shape_hulls.proofs.Axes.{nothing_at}
 use Rattle.shape_hulls.proofs.Frustums.{back_bounded, bounds_nothing, front_bounded, front_value, left_bounded, left_value, level_end, nearer_down, nearer_up, over_apex, over_low, right_bounded, slant_left_back, slant_left_front, slant_right_back, slant_right_front, under_apex, under_high, IsBeside}

@@ -6,7 +6,7 @@ use Rattle.std.proofs.lemmas.List.Concat.{get_or-flat_map}
 use Rattle.std.proofs.lemmas.List.Elements.{recursion_from_All, All-from_recursion}
 use Rattle.std.proofs.lemmas.List.Folds.{length-flat_map-take}
 use Rattle.primitives.specs.Shapes.{Mesh}
-use Rattle.scad_hull.proofs.Members.{all_flat, all_map, all_weaker}
+use Rattle.scad_hull.proofs.lemmas.Members.{all_flat, all_map, all_weaker}
 use Rattle.shape_hulls.specs.OwnHulls.{corner_points}
 
 -- the corners of a face, as points

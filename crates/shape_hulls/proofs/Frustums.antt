@@ -1,8 +1,8 @@
 -- Numbers of a frustum with four sides: the planes of its sides, and the planes that none of its corners is ahead of.
 use Rattle.std.proofs.Common.{◌≡◌, ◌⊎◌, inl, inr, [], ◌∷◌, refl, sym, ap, ◌∙◌, arith, ℤ, pos, ◌+ℤ◌, ◌-ℤ◌, ◌*ℤ◌, ◌<ℤ◌, ◌≤ℤ◌, neg_ℤ}
-use Rattle.plane_predicate.proofs.IntegerRing.{sums, mul_comm_ℤ, mul_neg_left, mul_neg_right, zero_mul}
-use Rattle.plane_predicate.proofs.Polynomials.{var, num, plus, times, minus, ring}
-use Rattle.plane_predicate.proofs.Signs.{signs, pos_pos, pos_neg, neg_pos, neg_neg, least_most, least_least, zero_cancel, pos_cancel}
+use Rattle.plane_predicate.proofs.lemmas.IntegerRing.{sums, mul_comm_ℤ, mul_neg_left, mul_neg_right, zero_mul}
+use Rattle.plane_predicate.proofs.lemmas.Polynomials.{var, num, plus, times, minus, ring}
+use Rattle.plane_predicate.proofs.lemmas.Signs.{signs, pos_pos, pos_neg, neg_pos, neg_neg, least_most, least_least, zero_cancel, pos_cancel}
 use Rattle.shape_hulls.proofs.Axes.{above_with, at_corner, at_point, below_with, less_by, less_parts, most_by, no_slope, no_times, times_one, IsAcross, IsNothing}
 
 -- ---- the planes of the sides

@@ -1,14 +1,15 @@
--- What shows that a shape is the hull of its points: no plane that none of its points is ahead of has a point inside on it or ahead.
+-- What shows that a shape is the hull of its points: no plane that none of its points is ahead of has a point inside on it or
+-- ahead.
 use Rattle.std.proofs.Common.{◌≡◌, ℕ, ◌<◌, List, [], length, get_or, subst, arith, ℤ, pos, ◌<ℤ◌, ◌≤ℤ◌, All}
 use Rattle.std.proofs.lemmas.List.{get_or_default}
 use Rattle.plane_predicate.specs.Space.{Coefficients, Coordinates, point_at, value}
-use Rattle.plane_predicate.proofs.IntegerRing.{sums}
+use Rattle.plane_predicate.proofs.lemmas.IntegerRing.{sums}
 use Rattle.primitives.specs.Shapes.{Mesh, mesh_point, value_at_point, IsPlaneOfFace, IsInside, IsShape}
-use Rattle.primitives.proofs.FacePlanes.{far, behind_each as behind_face}
+use Rattle.primitives.proofs.lemmas.FacePlanes.{far, behind_each as behind_face}
 use Rattle.scad_hull.specs.Combinations.{IsInnerCombination}
 use Rattle.scad_hull.specs.Hulls.{AreOnOnePlane}
-use Rattle.scad_hull.proofs.Inner.{behind_each, inner}
-use Rattle.scad_hull.proofs.Turns.{Bounds}
+use Rattle.scad_hull.proofs.lemmas.Inner.{behind_each, inner}
+use Rattle.scad_hull.proofs.lemmas.Turns.{Bounds}
 use Rattle.shape_hulls.specs.OwnHulls.{AreAllCorners, IsHullOfItsPoints}
 
 pub none_ahead : (mesh : Mesh) (face : List ℕ) (m : Coefficients) → IsPlaneOfFace mesh face m → AreAllCorners mesh → (i : ℕ) → i < length mesh.points → value_at_point mesh.points m i ≤ℤ pos 0

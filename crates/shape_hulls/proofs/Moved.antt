@@ -5,18 +5,18 @@ use Rattle.std.proofs.lemmas.List.{get_or-map, length-map, map-append}
 use Rattle.std.proofs.lemmas.List.Elements.{recursion_from_All}
 use Rattle.std.proofs.lemmas.Simd.{map-map}
 use Rattle.plane_predicate.specs.Space.{Coefficients, Coordinates, determinant, minor, point_at, value}
-use Rattle.plane_predicate.proofs.IntegerRing.{sums}
-use Rattle.plane_predicate.proofs.Polynomials.{Poly, var, num, plus, times, minus, ring}
-use Rattle.plane_predicate.proofs.Signs.{signs, neg_cancel, pos_neg, pos_pos, zero_cancel}
-use Rattle.plane_predicate.proofs.Vectors.{Place, determinantP, form, minorP, of_plane, of_point, place, valueP}
+use Rattle.plane_predicate.proofs.lemmas.IntegerRing.{sums}
+use Rattle.plane_predicate.proofs.lemmas.Polynomials.{Poly, var, num, plus, times, minus, ring}
+use Rattle.plane_predicate.proofs.lemmas.Signs.{signs, neg_cancel, pos_neg, pos_pos, zero_cancel}
+use Rattle.plane_predicate.proofs.lemmas.Vectors.{Place, determinantP, form, minorP, of_plane, of_point, place, valueP}
 use Rattle.int_transform.specs.declared.affine.Affine.{Affine}
 use Rattle.int_transform.specs.declared.affine.Row.{Row}
 use Rattle.int_transform.specs.Maps.{coordinate_list, determinant_of, image, row_at}
-use Rattle.int_transform.proofs.Images.{imageP, of_map}
+use Rattle.int_transform.proofs.lemmas.Images.{imageP, of_map}
 use Rattle.primitives.specs.Placing.{moved_mesh}
 use Rattle.primitives.specs.Shapes.{Mesh, IsInside, IsShape}
-use Rattle.primitives.proofs.Moves.{cancelled}
-use Rattle.primitives.proofs.Transforms.{inside-moved_mesh}
+use Rattle.primitives.proofs.lemmas.Moves.{cancelled}
+use Rattle.primitives.proofs.lemmas.Transforms.{inside-moved_mesh}
 use Rattle.scad_hull.specs.Combinations.{sum_of_weights, weighted_sum, IsInnerCombination}
 use Rattle.shape_hulls.specs.OwnHulls.{corner_points, IsHullOfItsCorners, IsHullOfItsPoints}
 use Rattle.shape_hulls.proofs.Axes.{less_by, no_times}

@@ -7,7 +7,7 @@ use Rattle.int_transform.specs.declared.affine.Affine.{Affine}
 use Rattle.int_transform.specs.Maps.{coordinate_list, image}
 use Rattle.primitives.specs.Placing.{moved_mesh, IsBehindAll}
 use Rattle.primitives.specs.Shapes.{Mesh, IsFaceOfShape, IsInside}
-use Rattle.primitives.proofs.Transforms.{inside-placed, inside-planes, some_points}
+use Rattle.primitives.proofs.lemmas.Transforms.{inside-placed, inside-planes, some_points}
 use Rattle.scad_hull.specs.Combinations.{IsInnerCombination}
 use Rattle.shape_hulls.specs.OwnHulls.{corner_points, ArePlacedPlanes, IsHullOfItsCorners, IsHullOfItsPoints}
 use Rattle.shape_hulls.proofs.FacePoints.{each_point, place_in, AtCorners}

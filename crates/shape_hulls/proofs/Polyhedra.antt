@@ -1,39 +1,39 @@
--- A polyhedron is the hull of its faces' points: a point behind all faces that a plane has on it or ahead, with no point of a face ahead, would see
--- the closed surface projected onto a plane, where its faces turn one way and their sum is 0.
+-- A polyhedron is the hull of its faces' points: a point behind all faces that a plane has on it or ahead, with no point of a
+-- face ahead, would see the closed surface projected onto a plane, where its faces turn one way and their sum is 0.
 use Rattle.std.proofs.Common.{◌≡◌, ℕ, zero, suc, ◌+◌, ◌<◌, List, [], ◌∷◌, length, get_or, flat_map, refl, sym, ap, ◌∙◌, subst, arith, ℤ, pos, negsuc, ◌+ℤ◌, ◌-ℤ◌, ◌*ℤ◌, ◌<ℤ◌, ◌≤ℤ◌, unsigned_abs, All}
 use Rattle.std.specs.List.{AllByRecursion}
 use Rattle.std.proofs.lemmas.List.{get_or_default}
 use Rattle.std.proofs.lemmas.List.Elements.{recursion_from_All, All-from_recursion}
 use Rattle.plane_predicate.specs.declared.unit.Unit.{Unit as LengthUnit}
 use Rattle.plane_predicate.specs.Space.{Coefficients, Coordinates, inner_product, point_at, value}
-use Rattle.plane_predicate.proofs.IntegerRing.{sums}
-use Rattle.plane_predicate.proofs.Polynomials.{var, num, plus, times, minus, ring}
-use Rattle.plane_predicate.proofs.SamePlanes.{directed_above}
-use Rattle.plane_predicate.proofs.Signs.{signs, least_least, least_most, most_most}
+use Rattle.plane_predicate.proofs.lemmas.IntegerRing.{sums}
+use Rattle.plane_predicate.proofs.lemmas.Polynomials.{var, num, plus, times, minus, ring}
+use Rattle.plane_predicate.proofs.lemmas.SamePlanes.{directed_above}
+use Rattle.plane_predicate.proofs.lemmas.Signs.{signs, least_least, least_most, most_most}
 use Rattle.primitives.specs.declared.ways.DirectedEdge.{DirectedEdge}
 use Rattle.primitives.specs.Checks.{HasOuterPlane}
 use Rattle.primitives.specs.Polyhedra.{polyhedron_of, IsPolyhedron, IsSurface}
 use Rattle.primitives.specs.Shapes.{mesh_point, value_at_point, Mesh, IsBehindFace, IsInside, IsShape}
 use Rattle.primitives.specs.DirectedEdges.{all_edges, edges_of_mesh_face}
-use Rattle.primitives.proofs.FacePlanes.{behind_body, behind_each as behind_face}
-use Rattle.primitives.proofs.OnePlane.{some_direction}
-use Rattle.primitives.proofs.ConvexShapes.{polyhedron_is_shape}
+use Rattle.primitives.proofs.lemmas.FacePlanes.{behind_body, behind_each as behind_face}
+use Rattle.primitives.proofs.lemmas.OnePlane.{some_direction}
+use Rattle.primitives.proofs.lemmas.ConvexShapes.{polyhedron_is_shape}
 use Rattle.scad_hull.specs.Combinations.{IsInnerCombination}
 use Rattle.scad_hull.specs.Hulls.{AreOnOnePlane}
-use Rattle.scad_hull.proofs.Alternative.{point_less, value_point_less}
-use Rattle.scad_hull.proofs.Inner.{behind_each, inner}
-use Rattle.scad_hull.proofs.Members.{all_weaker}
-use Rattle.scad_hull.proofs.Turns.{Bounds}
+use Rattle.scad_hull.proofs.lemmas.Alternative.{point_less, value_point_less}
+use Rattle.scad_hull.proofs.lemmas.Inner.{behind_each, inner}
+use Rattle.scad_hull.proofs.lemmas.Members.{all_weaker}
+use Rattle.scad_hull.proofs.lemmas.Turns.{Bounds}
 use Rattle.shape_hulls.specs.OwnHulls.{corner_points, AreAllCorners, IsHullOfItsCorners, IsHullOfItsPoints}
 use Rattle.plane_predicate.specs.Sums.{sum_over}
 use Rattle.shape_hulls.proofs.Axes.{no_times}
-use Rattle.closed_faces.proofs.Edges.{all_ways_total, once_each}
+use Rattle.closed_faces.proofs.lemmas.Edges.{all_ways_total, once_each}
 use Rattle.shape_hulls.proofs.FacePoints.{at_corners, bounded, each_point, place_in, place_is, place_of, AtCorners}
 use Rattle.shape_hulls.proofs.Insides.{hull_by}
 use Rattle.shape_hulls.proofs.Projected.{face_turns, least_face, spin_back, turn_of, IsSeen, IsView}
 use Rattle.shape_hulls.proofs.Seen.{depth}
 use Rattle.shape_hulls.proofs.Shares.{scale, HasScale}
-use Rattle.closed_faces.proofs.Sums.{first_zero, total_flat}
+use Rattle.closed_faces.proofs.lemmas.Sums.{first_zero, total_flat}
 
 -- no point of a face is ahead of a plane
 abbrev HasNoneAhead : Mesh → Coefficients → Type 0

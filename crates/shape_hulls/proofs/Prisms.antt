@@ -10,18 +10,18 @@ use Rattle.std.proofs.lemmas.List.Elements.{All-from_recursion}
 use Rattle.std.proofs.lemmas.List.FromFn.{get_or-range_with_len, length-range_with_len}
 use Rattle.plane_predicate.specs.declared.unit.Unit.{Unit as LengthUnit}
 use Rattle.plane_predicate.specs.Space.{Coefficients, Coordinates, minor, value}
-use Rattle.plane_predicate.proofs.IntegerRing.{sums, one_mul}
-use Rattle.plane_predicate.proofs.Signs.{pos_pos}
+use Rattle.plane_predicate.proofs.lemmas.IntegerRing.{sums, one_mul}
+use Rattle.plane_predicate.proofs.lemmas.Signs.{pos_pos}
 use Rattle.primitives.specs.Polygons.{x_of, y_of, orientation, polygon_point, GoesLeft, GoesRight, HasCorner, IsFlatShape}
 use Rattle.primitives.specs.Prisms.{extrusion_of, is_same_flat_point, prism_faces, prism_of, prism_points, side_over, sides_over}
 use Rattle.primitives.specs.Shapes.{mesh_point, value_at_point, IsBehindFace, IsPlaneOfFace, IsInside}
 use Rattle.primitives.specs.Sizes.{high_end, low_end, AreSizes}
-use Rattle.primitives.proofs.EndFaces.{ends_of_side}
-use Rattle.primitives.proofs.Moves.{whole}
-use Rattle.primitives.proofs.PrismBodies.{prism_is_shape}
-use Rattle.primitives.proofs.PrismLists.{after_in, each_corner, high_corner, high_face, length_faces, length_points, low_corner, low_face, side_face}
-use Rattle.primitives.proofs.SidePlanes.{left_of_way, points_differ}
-use Rattle.scad_hull.proofs.Turns.{Bounds}
+use Rattle.primitives.proofs.lemmas.EndFaces.{ends_of_side}
+use Rattle.primitives.proofs.lemmas.Moves.{whole}
+use Rattle.primitives.proofs.lemmas.PrismBodies.{prism_is_shape}
+use Rattle.primitives.proofs.lemmas.PrismLists.{after_in, each_corner, high_corner, high_face, length_faces, length_points, low_corner, low_face, side_face}
+use Rattle.primitives.proofs.lemmas.SidePlanes.{left_of_way, points_differ}
+use Rattle.scad_hull.proofs.lemmas.Turns.{Bounds}
 use Rattle.shape_hulls.specs.OwnHulls.{AreAllCorners, IsFaceCorner, IsHullOfItsPoints}
 use Rattle.shape_hulls.proofs.Axes.{less_by, most_by}
 use Rattle.shape_hulls.proofs.Frustums.{over_low, under_high}

@@ -1,20 +1,20 @@
 -- A face that goes round clockwise, in the central projection from a point behind it: its turns sum to a number above 0.
 use Rattle.std.proofs.Common.{◌≡◌, inl, inr, ℕ, ◌+◌, ◌<◌, List, [], ◌∷◌, length, get_or, refl, sym, ap, ap₂, ◌∙◌, subst, arith, ℤ, pos, ◌+ℤ◌, ◌-ℤ◌, ◌*ℤ◌, ◌<ℤ◌, ◌≤ℤ◌, unsigned_abs, All}
 use Rattle.plane_predicate.specs.Space.{Coefficients, Coordinates, inner_product, point_at, plane_of_points, value, AreCollinear}
-use Rattle.plane_predicate.proofs.IntegerRing.{sums}
-use Rattle.plane_predicate.proofs.Polynomials.{var, num, plus, times, minus, ring}
-use Rattle.plane_predicate.proofs.Signs.{least_cancel, least_least, pos_pos, zero_cancel}
-use Rattle.plane_predicate.proofs.Vectors.{form, innerP, of_plane}
+use Rattle.plane_predicate.proofs.lemmas.IntegerRing.{sums}
+use Rattle.plane_predicate.proofs.lemmas.Polynomials.{var, num, plus, times, minus, ring}
+use Rattle.plane_predicate.proofs.lemmas.Signs.{least_cancel, least_least, pos_pos, zero_cancel}
+use Rattle.plane_predicate.proofs.lemmas.Vectors.{form, innerP, of_plane}
 use Rattle.primitives.specs.declared.ways.DirectedEdge.{DirectedEdge}
 use Rattle.primitives.specs.Shapes.{mesh_point, value_at_point, HasTriangle}
 use Rattle.primitives.specs.DirectedEdges.{next_in_face, edges_of_mesh_face, HasNoneLeft, IsClockwise}
-use Rattle.primitives.proofs.Moves.{throughP, whole, wholeP}
-use Rattle.primitives.proofs.OnePlane.{not_zero_below, off_the_plane, GoesThrough}
+use Rattle.primitives.proofs.lemmas.Moves.{throughP, whole, wholeP}
+use Rattle.primitives.proofs.lemmas.OnePlane.{not_zero_below, off_the_plane, GoesThrough}
 use Rattle.plane_predicate.specs.Sums.{sum_over}
-use Rattle.closed_faces.proofs.Edges.{after_in, at_place, each_way, next_to, round_again, round_total, same_round, way}
+use Rattle.closed_faces.proofs.lemmas.Edges.{after_in, at_place, each_way, next_to, round_again, round_total, same_round, way}
 use Rattle.shape_hulls.proofs.Seen.{clockwise_side, depth, scaled_triangle, swing, swing_back, triangle_seen}
 use Rattle.shape_hulls.proofs.Shares.{IsScaled}
-use Rattle.closed_faces.proofs.Sums.{least_below, same_below, sum_below, sum_of_sums, zero_below}
+use Rattle.closed_faces.proofs.lemmas.Sums.{least_below, same_below, sum_below, sum_of_sums, zero_below}
 
 -- the turn from one point to another once both are moved along their rays
 abbrev pub spin : (List ℤ → ℤ) → Coefficients → Coordinates → List ℤ → List ℤ → ℤ
@@ -135,7 +135,8 @@ handed uv va vb ua ub au bu first second e f = omega (arith, sums, first, second
 closing : (aa ab ca cb bc : ℤ) → aa ≡ pos 0 → ca -ℤ cb ≡ aa -ℤ ab → bc ≡ pos 0 -ℤ cb → ab +ℤ (bc +ℤ ca) ≡ pos 0
 closing aa ab ca cb bc none same back = omega (arith, sums, none, same, back)
 
--- the sum is not 0: else all triangles of ways and corners were flat, and so were that of three corners that are not on one line
+-- the sum is not 0: else all triangles of ways and corners were flat, and so were that of three corners that are not on one
+-- line
 pub face_turns : (points : List (List ℤ)) (face : List ℕ) (n m : Coefficients) (q : Coordinates) (s : List ℤ → ℤ) (k : ℤ) → IsView points face n m q s k → HasTriangle points face → sum_over (turn_of s m q) (edges_of_mesh_face points face) ≡ pos 0 → ⊥
 face_turns points face n m q s k h t none =
     let P : ℕ → List ℤ = at_place points face in

@@ -1,12 +1,12 @@
 -- Inner combinations of points within reach are within reach.
 use Rattle.std.proofs.Common.{◌≡◌, ◌*◌, ◌<◌, ◌≤◌, List, [], ◌∷◌, length, get_or, refl, sym, ℕ, arith, ℤ, pos, negsuc, ◌+ℤ◌, ◌-ℤ◌, ◌*ℤ◌, ◌<ℤ◌, ◌≤ℤ◌, unsigned_abs, All}
 use Rattle.plane_predicate.specs.Space.{Coefficients, Coordinates, point_at, value, IsInReach}
-use Rattle.plane_predicate.proofs.IntegerRing.{sums}
-use Rattle.plane_predicate.proofs.Polynomials.{var, num, plus, times, minus, ring}
-use Rattle.plane_predicate.proofs.Signs.{least_most, neg_cancel}
-use Rattle.plane_predicate.proofs.Vectors.{form, of_plane, of_point, place, valueP}
+use Rattle.plane_predicate.proofs.lemmas.IntegerRing.{sums}
+use Rattle.plane_predicate.proofs.lemmas.Polynomials.{var, num, plus, times, minus, ring}
+use Rattle.plane_predicate.proofs.lemmas.Signs.{least_most, neg_cancel}
+use Rattle.plane_predicate.proofs.lemmas.Vectors.{form, of_plane, of_point, place, valueP}
 use Rattle.scad_hull.specs.Combinations.{IsInnerCombination}
-use Rattle.scad_hull.proofs.Inner.{behind_each}
+use Rattle.scad_hull.proofs.lemmas.Inner.{behind_each}
 use Rattle.shape_hulls.proofs.Axes.{most_by}
 
 -- ---- a plane that no point is ahead of

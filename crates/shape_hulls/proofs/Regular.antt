@@ -1,16 +1,16 @@
 -- A map that leaves the faces of a shape faces of a body is not singular.
 use Rattle.std.proofs.Common.{◌≡◌, ◌∙◌, List, [], ◌∷◌, get_or, refl, ℤ, pos, ◌*ℤ◌, All}
 use Rattle.plane_predicate.specs.Space.{plane_of_points, value}
-use Rattle.plane_predicate.proofs.Polynomials.{times, ring}
-use Rattle.plane_predicate.proofs.Vectors.{determinantP, form, valueP}
+use Rattle.plane_predicate.proofs.lemmas.Polynomials.{times, ring}
+use Rattle.plane_predicate.proofs.lemmas.Vectors.{determinantP, form, valueP}
 use Rattle.int_transform.specs.declared.affine.Affine.{Affine}
 use Rattle.int_transform.specs.Maps.{determinant_of, image}
-use Rattle.int_transform.proofs.Images.{imageP, of_map}
+use Rattle.int_transform.proofs.lemmas.Images.{imageP, of_map}
 use Rattle.primitives.specs.Placing.{moved_mesh}
 use Rattle.primitives.specs.Shapes.{Mesh, mesh_point, IsFaceOfShape, IsShape}
-use Rattle.primitives.proofs.Moves.{throughP, whole, wholeP}
-use Rattle.primitives.proofs.OnePlane.{not_zero_below, off_the_plane}
-use Rattle.primitives.proofs.Transforms.{corner-moved_mesh}
+use Rattle.primitives.proofs.lemmas.Moves.{throughP, whole, wholeP}
+use Rattle.primitives.proofs.lemmas.OnePlane.{not_zero_below, off_the_plane}
+use Rattle.primitives.proofs.lemmas.Transforms.{corner-moved_mesh}
 use Rattle.shape_hulls.proofs.Axes.{no_times}
 
 -- the determinant of the images of four points

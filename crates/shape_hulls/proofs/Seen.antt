@@ -1,14 +1,14 @@
--- Points as they are seen from a point that a plane has ahead: in the central projection onto a parallel plane, the three turns of a triangle
--- sum to one number whose sign tells the side of the triangle's plane.
+-- Points as they are seen from a point that a plane has ahead: in the central projection onto a parallel plane, the three turns
+-- of a triangle sum to one number whose sign tells the side of the triangle's plane.
 use Rattle.std.proofs.Common.{◌≡◌, [], ◌∷◌, ◌+◌, ◌<◌, refl, sym, ap, ◌∙◌, arith, ℤ, pos, ◌+ℤ◌, ◌-ℤ◌, ◌*ℤ◌, ◌<ℤ◌, ◌≤ℤ◌, unsigned_abs}
 use Rattle.plane_predicate.specs.Space.{Coefficients, Coordinates, determinant, inner_product, plane_of_points, value}
-use Rattle.plane_predicate.proofs.IntegerRing.{sums}
-use Rattle.plane_predicate.proofs.Polynomials.{Poly, var, num, plus, times, minus, ring}
-use Rattle.plane_predicate.proofs.SamePlanes.{directed_above}
-use Rattle.plane_predicate.proofs.Signs.{least_cancel, most_most, neg_pos}
-use Rattle.plane_predicate.proofs.Vectors.{Form, Place, determinantP, form, innerP, of_plane, of_point, place, valueP}
-use Rattle.primitives.proofs.Moves.{throughP, whole, wholeP}
-use Rattle.primitives.proofs.OnePlane.{in_proportion, GoesThrough}
+use Rattle.plane_predicate.proofs.lemmas.IntegerRing.{sums}
+use Rattle.plane_predicate.proofs.lemmas.Polynomials.{Poly, var, num, plus, times, minus, ring}
+use Rattle.plane_predicate.proofs.lemmas.SamePlanes.{directed_above}
+use Rattle.plane_predicate.proofs.lemmas.Signs.{least_cancel, most_most, neg_pos}
+use Rattle.plane_predicate.proofs.lemmas.Vectors.{Form, Place, determinantP, form, innerP, of_plane, of_point, place, valueP}
+use Rattle.primitives.proofs.lemmas.Moves.{throughP, whole, wholeP}
+use Rattle.primitives.proofs.lemmas.OnePlane.{in_proportion, GoesThrough}
 
 -- how far a point is behind the plane's parallel through q, counted by q's weight
 abbrev pub depth : Coefficients → Coordinates → Coordinates → ℤ

@@ -3,7 +3,7 @@ use Rattle.std.proofs.Common.{◌≡◌, ℕ, zero, suc, ◌+◌, ◌*◌, ◌/�
 use Rattle.std.specs.List.{AllByRecursion}
 use Rattle.std.proofs.Math.IntN.{pos-*ℤ-pos}
 use Rattle.std.proofs.Math.Nat.{div-mul_cancel, dvd-mul_left_of_dvd, dvd-mul_right}
-use Rattle.plane_predicate.proofs.IntegerRing.{sums}
+use Rattle.plane_predicate.proofs.lemmas.IntegerRing.{sums}
 use Prim.Native.Nat.{◌∣◌}
 
 -- the product of a number for each item

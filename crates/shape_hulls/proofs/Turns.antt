@@ -1,11 +1,11 @@
 -- Ways round a polygon, as seen from a point inside it.
 use Rattle.std.proofs.Common.{◌≡◌, ◌⊎◌, inl, inr, [], ◌∷◌, refl, sym, ap, ◌∙◌, subst, arith, ℕ, zero, suc, ◌+◌, ◌-◌, ◌<◌, ℤ, pos, ◌+ℤ◌, ◌-ℤ◌, ◌*ℤ◌, ◌<ℤ◌, ◌≤ℤ◌}
 use Rattle.plane_predicate.specs.Space.{minor}
-use Rattle.plane_predicate.proofs.IntegerRing.{sums}
-use Rattle.plane_predicate.proofs.Polynomials.{Poly, var, num, plus, times, minus, ring}
-use Rattle.plane_predicate.proofs.Signs.{signs, pos_neg, neg_pos, least_most, most_most, least_least, most_cancel, neg_cancel, zero_cancel}
-use Rattle.plane_predicate.proofs.Vectors.{minorP}
-use Rattle.primitives.proofs.Moves.{cancelled}
+use Rattle.plane_predicate.proofs.lemmas.IntegerRing.{sums}
+use Rattle.plane_predicate.proofs.lemmas.Polynomials.{Poly, var, num, plus, times, minus, ring}
+use Rattle.plane_predicate.proofs.lemmas.Signs.{signs, pos_neg, neg_pos, least_most, most_most, least_least, most_cancel, neg_cancel, zero_cancel}
+use Rattle.plane_predicate.proofs.lemmas.Vectors.{minorP}
+use Rattle.primitives.proofs.lemmas.Moves.{cancelled}
 use Rattle.shape_hulls.proofs.Axes.{less_parts, no_slope, no_times, times_one, IsAcross}
 
 -- ---- round

@@ -1,5 +1,5 @@
-//! Shapes as the hulls of their points: what is inside a cube, a polyhedron, a cylinder, an extrusion or a hull, before and
-//! after it is placed, as laws, which do nothing when they run.
+//! Laws of shapes as the hulls of their points, which do nothing when they run: what is inside a cube, a polyhedron, a
+//! cylinder, an extrusion or a hull, before and after it is placed.
 #![tactic(auto)]
 
 mod laws;

@@ -52,7 +52,7 @@ module _ {K : Type 0} where
   memo_calls_of items = map memo_call_of items
 
 module _ {K V R : Type 0} (tasks : ClientTasks K V R) where
-  -- the call that an act makes, if it makes one, of a client that has answered so many commands
+  -- the call that an act makes, if it makes one, of a client that has answered the given number of commands
   abbrev pub call_by : ℕ → ℕ → Act → List (MemoCall K)
   call_by client command Command = []
   call_by client command (Probe n) = record { caller = client; key = tasks.key client command n; is_fill = false } ∷ []

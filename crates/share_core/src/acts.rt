@@ -1,3 +1,5 @@
+//! What clients of a shared memo do, one function for each kind of event.
+
 ghost use Rattle.std.specs.Prelude.{◌≡◌, ℕ, ◌<◌, length, option_map, true, false, Some, []};
 ghost use Rattle.std.specs.Prelude.{IfOk, OnOk, OnErr, IfNone, IfSome, MatchOption};
 ghost use Rattle.std.specs.Arc.{arc_value};
@@ -14,9 +16,9 @@ use crate::kept_nodes::{NodeState, Nodes};
 use crate::parts::{ClientPart, put_node};
 use crate::work::Work;
 use memo_core::{Fill, Fit, MemoCore, Namer, Probe};
+use plain_text::NoMemory;
 use std::alloc::Global;
 use std::sync::Arc;
-use text_place::NoMemory;
 
 // The number of the command that a client is at, or else of its next one.
 fn command_of<F: Fit, W: Work<F>>(

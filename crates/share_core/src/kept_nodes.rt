@@ -1,13 +1,15 @@
+//! The nodes of the command that a client is at, each with its state.
+
 ghost use Rattle.std.specs.Prelude.{◌≡◌, map, option_map, MatchOption, false, slice_get, Some};
 ghost use Rattle.std.specs.Arc.{arc_value};
 ghost use Rattle.share_core.specs.Views.{Built};
 ghost use Rattle.share_core.specs.KeptNodes.{are_values, state_of, is_waiting};
 ghost use Rattle.share_core.specs.Steps.{is_at, is_unasked, is_missed, is_built};
 
+use plain_text::NoMemory;
 use std::alloc::Global;
 use std::marker::Model;
 use std::sync::Arc;
-use text_place::NoMemory;
 
 /// How far a node is that is not there. Where the node is there, this says nothing.
 #[derive(Drop)]
@@ -49,7 +51,7 @@ impl<V: Drop> Nodes<V> {
     ghost use Rattle.share_core.specs.Fields.{values_of};
     ghost use Rattle.share_core.specs.Steps.{all_there, is_at, is_unasked, is_missed, is_built};
 
-    /// So many nodes that are not yet probed.
+    /// The given number of nodes that are not yet probed.
     pub fn new(alloc: Global, count: u32) -> Result<Self, NoMemory>
         ensures { IfOk result (λ n. n ≡ replicate count Unasked) }
     {

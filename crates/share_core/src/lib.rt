@@ -1,4 +1,4 @@
-//! The pure machine of clients that share one memo: every interleaving of their events, with no thread.
+//! A state machine of clients that share one memo, without threads: every interleaving of their events.
 //!
 //! Each client's replies are those that its own commands define.
 #![tactic(auto)]

@@ -1,3 +1,5 @@
+//! One client's part of the state.
+
 ghost use Rattle.std.specs.Prelude.{◌≡◌, ◌<◌, map, length, IfOk, IfSome, option_map, replicate};
 ghost use Rattle.std.specs.Arc.{arc_value};
 ghost use Rattle.share_core.specs.KeptNodes.{client_node};
@@ -5,9 +7,9 @@ ghost use Rattle.share_core.specs.Fields.{no_client_part, part_of};
 ghost use Rattle.share_core.specs.Steps.{with_node};
 
 use crate::kept_nodes::{NodeState, Nodes};
+use plain_text::NoMemory;
 use std::alloc::Global;
 use std::sync::Arc;
-use text_place::NoMemory;
 
 /// One client's part: the nodes of the command that it is at, if it is at one, and its replies.
 #[derive(Drop)]
@@ -16,7 +18,7 @@ pub struct ClientPart<V, R> {
     pub replies: Vec<R>,
 }
 
-/// So many clients that have not begun.
+/// The given number of clients that have not begun.
 pub fn nobodies<V: Drop, R: Drop>(
     alloc: Global,
     clients: u32,

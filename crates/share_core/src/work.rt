@@ -1,11 +1,13 @@
+//! What the clients are to do: their commands, the nodes of each and the keys of these.
+
 ghost use Rattle.std.specs.Prelude.{◌≡◌, ℕ, ◌<◌, true, List, map, length, IfOk, Option, option_map};
 ghost use Rattle.std.specs.Arc.{arc_value};
 ghost use Rattle.share_core.specs.Views.{ClientTasks, HaveFits, AllThere, MoreThere};
 
 use memo_core::Fit;
+use plain_text::NoMemory;
 use std::alloc::Global;
 use std::sync::Arc;
-use text_place::NoMemory;
 
 /// What the clients do. Clients, commands and nodes are numbered from 0; place i of `have` is that
 /// of node i.

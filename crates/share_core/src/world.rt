@@ -1,3 +1,5 @@
+//! The state of clients that share one memo, changed one event at a time.
+
 ghost use Rattle.std.specs.Prelude.{◌≡◌, ◌≢◌, ℕ, ◌<◌, List, [], map, length};
 ghost use Rattle.std.specs.Prelude.{IfOk, OnErr, slice_get};
 ghost use Rattle.memo_core.specs.Memo.{IsLegal, replay};
@@ -11,9 +13,9 @@ use crate::event::{Event, Stepped};
 use crate::parts::{ClientPart, nobodies};
 use crate::work::Work;
 use memo_core::{Fit, JournalItem, MemoCore, Namer};
+use plain_text::NoMemory;
 use std::alloc::Global;
 use std::marker::Model;
-use text_place::NoMemory;
 
 /// A work's clients and their one memo, at some point of some interleaving.
 #[derive(Drop)]

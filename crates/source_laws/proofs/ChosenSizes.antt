@@ -1,5 +1,5 @@
--- The children that a call of `children` chooses: all, one, those of a range, each once, or so many as its list has numbers, whose
--- elements were counted.
+-- The children that a call of `children` chooses: all, one, those of a range, each once, or as many as its list has numbers,
+-- whose elements were counted.
 use Rattle.std.proofs.Common.{◌≤◌, ◌*◌, ℕ, suc, ◌+◌, Bool, true, false, not, ◌&&◌, ◌||◌, List, [], ◌∷◌, length, Option, Some, None, Ok, ℤ, pos, arith}
 use Rattle.std.specs.Prelude.{IfOk, IfSome, option_map, is_some, nat_eq}
 use Rattle.std.specs.Ordering.{int_eq}
@@ -21,7 +21,7 @@ use Rattle.scad_meaning.specs.Loops.{chosen_among}
 use Rattle.source_laws.proofs.Costs.{elements}
 use Rattle.source_laws.proofs.TextSizes.{size_of_instances, items_size, ranged_size}
 
--- a choice is at most all children, and all once more for each of so many
+-- a choice is at most all children, and all once more for each of the given number
 abbrev pub ChoosesUpTo : ℕ → ChosenCall → Type 0
 ChoosesUpTo n chosen = (xs : List InstanceTerm) → size_of_instances (chosen_among xs chosen) ≤ size_of_instances xs * suc n
 

@@ -1,8 +1,8 @@
--- What evaluations cost: each turn pays for as many evaluations as there are in the largest body, and what a text says once is paid
--- for by its size. What one step leaves over, the next may use.
+-- What evaluations cost: each turn pays for as many evaluations as there are in the largest body, and what a text says once is
+-- paid for by its size. What one step leaves over, the next may use.
 use Rattle.std.proofs.Common.{◌≡◌, ◌≤◌, ◌*◌, refl, ℕ, zero, suc, ◌+◌, Bool, true, false, nat_lt, List, [], ◌∷◌, Option, Some, None, Ok, Err, if◌then◌else◌, arith, ltb-true, ltb-false, slice_set}
 use Rattle.std.specs.Prelude.{IfSome}
-use Rattle.text_place.specs.declared.fault.Place.{Place}
+use Rattle.plain_text.specs.declared.place.Place.{Place}
 use Rattle.text_place.specs.declared.fault.FaultKind.{FaultKind}
 use Rattle.text_place.specs.declared.fault.FaultKind.TheVariants.{TooManyTurns}
 use Rattle.scad_value.specs.Values.{Val, NumberVal, TruthVal, TextVal, ListVal, RangeVal, UndefVal, element_count}
@@ -36,7 +36,7 @@ within_turns turns more h = ltb-false most_turns (turns + more) h
 pub turn_within : (turns : ℕ) → nat_lt turns most_turns ≡ true → turns + 1 ≤ most_turns
 turn_within turns h = let below = ltb-true turns most_turns h in omega arith
 
--- the size of the largest body, and what so many turns have paid
+-- the size of the largest body, and what the given number of turns have paid
 pub record Rate : Type 0 where
   pub largest : ℕ
   pub paid : ℕ → ℕ

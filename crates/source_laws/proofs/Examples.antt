@@ -1,7 +1,7 @@
 -- What small programs take and count: each row is computed.
 use Rattle.std.proofs.Common.{◌≡◌, ◌<◌, ◌*◌, ◌+◌, refl, sym, subst, arith, ℕ, List, [], ◌∷◌, None}
 use Rattle.std.specs.Prelude.{codes}
-use Rattle.text_place.specs.declared.fault.Place.{Place}
+use Rattle.plain_text.specs.declared.place.Place.{Place}
 use Rattle.plane_predicate.specs.declared.unit.Unit.{Unit as LengthUnit}
 use Rattle.plane_predicate.specs.declared.unit.Unit.TheVariants as units
 use Rattle.scad_ast.specs.Terms.{Term, NumberTerm, NameTerm, ListTerm, RangeTerm, no_terms, and_term, PositionalTerm, AssignmentTerm, ModuleTerm, InstanceStatement, StatementTerms, no_statements, and_statement, InstanceTerm, AnInstance, ForTerm, IfElseTerm, ModuleCallTerm, ChainTerm, and_link, no_links, PlainTerm, BodyTerm, EmptyBody, BlockBody, InstanceBody}

@@ -1,7 +1,7 @@
 -- What the evaluations of expressions cost: one lemma for each equation of their count.
 use Rattle.std.proofs.Common.{◌≡◌, ◌≤◌, ℕ, zero, suc, ◌+◌, Bool, true, false, cond, List, [], ◌∷◌, length, Option, Some, None, Ok, if◌then◌else◌, arith, replicate}
 use Rattle.std.specs.Prelude.{IfSome}
-use Rattle.text_place.specs.declared.fault.Place.{Place}
+use Rattle.plain_text.specs.declared.place.Place.{Place}
 use Rattle.text_place.specs.declared.fault.FaultKind.TheVariants.{UnknownName, BadArgument, NotInProfile}
 use Rattle.scad_ast.specs.Terms.{Term, NumberTerm, TextTerm, TruthTerm, UndefTerm, ChildCountTerm, SpecialTerm, NameTerm, CallTerm, ParenTerm, ListTerm, RangeTerm, SteppedRangeTerm, PostfixTerm, UnaryTerm, ChainTerm, ChoiceTerm, Terms, no_terms, and_term, ArgTerms, no_args, and_named, and_special, and_positional, NamedTerm, SpecialArgTerm, PositionalTerm, SuffixTerms, no_suffixes, and_index, and_member, LinkTerms, no_links, and_link, ParamTerm, PlainTerm, DefaultTerm, place_of_term}
 use Rattle.scad_value.specs.Values.{Val, NumberVal, TruthVal, ListVal, truth_of}

@@ -2,7 +2,7 @@
 use Rattle.std.proofs.Common.{nat_eq, ◌&&◌, ◌≡◌, ◌≤◌, ◌*◌, refl, sym, ℕ, zero, suc, ◌+◌, Bool, true, false, nat_lt, List, [], ◌∷◌, ◌++◌, length, Option, Some, None, if◌then◌else◌, arith, ltb-true}
 use Rattle.std.specs.Prelude.{All, IfSome, IfOk, is_some, codes}
 use Rattle.std.proofs.lemmas.List.Elements.{All-nil, All-cons, All-head, All-tail, All-filter}
-use Rattle.text_place.specs.declared.fault.Place.{Place}
+use Rattle.plain_text.specs.declared.place.Place.{Place}
 use Rattle.text_place.specs.declared.fault.FaultKind.TheVariants.{TypeMismatch, BadArgument, WrongDimension, NotInProfile, TooManyParts, TooManyTurns}
 use Rattle.csg_tree.specs.declared.op.Op.{Op}
 use Rattle.csg_tree.specs.declared.op.Op.TheVariants.{Union, Intersection}
@@ -28,7 +28,7 @@ use Rattle.scad_meaning.specs.Verdicts.{Judge, Verdict, solid_mesh, extrusion_me
 use Rattle.scad_meaning.specs.Bodies.{instances_in, evaluated_instances, has_root_modifier, has_no_geometry, is_bare}
 use Rattle.scad_meaning.specs.Loops.{iterated_values, chosen_among}
 use Rattle.scad_meaning.specs.Meaning.{Context, inside_scope, with_bindings, with_calls_left, inside_root, inside_extrusion, expression_context, InstanceDesign, MemberDesigns, no_design, as_member, and_members, joined_members, moved_design, EvaluatesInstance, Evaluator, assigned_value, with_assignment, each_assignment, core_of_instance, each_member, candidates_of, instances_chosen, block_members, each_in_scope, each_in_body, body_design, turn_after_step, counted_step, each_step, in_loop, each_iteration, loop_design, most_leaves, leaf_design, unless_refused, with_leaf_of, hull_design, module_scope, module_with_values, module_with_arguments, module_design, each_echo_argument, arguments_for, children_design, counted_call, flat_design, effect_design, built_in_with_arguments, built_in_design, call_design, core_design, as_root, root_design, instance_design, design_within, program_context}
-use Rattle.scad_meaning.proofs.Choosing.{all_chosen, candidates_all}
+use Rattle.scad_meaning.proofs.lemmas.Choosing.{all_chosen, candidates_all}
 use Rattle.source_laws.specs.Sizes.{size_of_term, size_of_args, size_of_params, size_of_binders, size_of_statements, size_of_instance, size_of_core, size_of_body, size_of_module, HoldsTextsUpTo, CallHoldsTextsUpTo}
 use Rattle.source_laws.specs.EvaluationCosts.{Cost, and_later, no_cost, so_many_counted, cost_then, cost_of_turn, cost_in_call}
 use Rattle.source_laws.specs.CostsOfExpressions.{ExpressionCost, cost_at_next_depth, cost_of_each_argument, cost_of_each_parameter, cost_within}
@@ -62,7 +62,7 @@ leaf_within : (leaves : ℕ) → nat_lt leaves most_leaves ≡ true → leaves +
 leaf_within leaves h = let below = ltb-true leaves most_leaves h in omega arith
 
 module _ (largest : ℕ) where
-  -- where so many calls are left, and the scope holds nothing larger than the largest body
+  -- where the given number of calls are left, and the scope holds nothing larger than the largest body
   abbrev pub Stands : ℕ → Context → Type 0
   Stands calls here = (here.calls_left ≡ calls) × HoldsTextsUpTo largest here.env
 

@@ -1,5 +1,5 @@
--- What turns and leaves pay: each as many evaluations as there are in the largest body, once for each call that may still stand in
--- others and once more. So a call pays for the calls of `children` in it that count nothing themselves.
+-- What turns and leaves pay: each as many evaluations as there are in the largest body, once for each call that may still stand
+-- in others and once more. So a call pays for the calls of `children` in it that count nothing themselves.
 use Rattle.std.proofs.Common.{◌≡◌, ◌≤◌, ◌*◌, subst, ap, ℕ, zero, suc, ◌+◌, ◌-◌, arith}
 use Rattle.source_laws.proofs.Costs.{Rate}
 
@@ -37,7 +37,7 @@ module _ (largest : ℕ) where
       product_by count more all e = subst (λ n. largest * count ≤ largest * n) e
           (let more = more_product largest count more in omega arith)
 
-  -- in all: what is paid for so many calls
+  -- in all: what is paid for the given number of calls
   pub paid_all : (calls count : ℕ) → paid calls count ≡ suc calls * (largest * count)
   unfolding paid
   paid_all zero count = omega arith
@@ -47,7 +47,7 @@ module _ (largest : ℕ) where
       ((turns + more) + leaves)
   paid_swapped calls turns leaves more = paid_by calls (turns + leaves) more ((turns + more) + leaves) (omega arith)
 
-  -- the rate of an expression, where so many calls are left and so many leaves stand
+  -- the rate of an expression, where the given number of calls are left and the given number of leaves stand
   abbrev pub rate_with : (calls leaves : ℕ) → Rate
   rate_with calls leaves = record {
     largest = largest;

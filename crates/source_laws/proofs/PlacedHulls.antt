@@ -18,7 +18,7 @@ use Rattle.csg_tree.specs.Reach.{KeepsWithinReach, LeavesKeepWithinReach}
 use Rattle.scad_design.specs.Designs.{DesignTree, empty, a_leaf, joined_designs, MovedShape}
 use Rattle.scad_design.specs.Placing.{PlacingOutcome, placing_tree, placing_fault, placing_of_join, IsPlacedLeaf, PlacesDesign, PlacesRight}
 use Rattle.scad_design.specs.Trees.{IsPlacedAs}
-use Rattle.scad_design.proofs.FacePlanes.{images_are_in_reach}
+use Rattle.scad_design.proofs.lemmas.FacePlanes.{images_are_in_reach}
 use Rattle.source_laws.specs.SourceHulls.{IsHullShape, AreHullShapes}
 
 -- ---- joins

@@ -1,6 +1,6 @@
 -- Each shape that a right judge lets through is the hull of its points, or of its faces' points.
 use Rattle.std.proofs.Common.{◌≡◌, ◌⊎◌, inl, inr, ℕ, ℤ, Bool, List, [], ◌∷◌, length, None, subst, ◌∙◌, arith}
-use Rattle.text_place.specs.declared.fault.Place.{Place}
+use Rattle.plain_text.specs.declared.place.Place.{Place}
 use Rattle.plane_predicate.specs.declared.unit.Unit.{Unit as LengthUnit}
 use Rattle.primitives.specs.Boxes.{cube_of}
 use Rattle.primitives.specs.Polygons.{IsFlatShape}
@@ -22,10 +22,10 @@ use Rattle.scad_meaning.specs.declared.extrusion.Extrusion.{Extrusion}
 use Rattle.scad_meaning.specs.Hulls.{points_of, hull_mesh}
 use Rattle.scad_meaning.specs.Verdicts.{Judge, IsRightJudge, IsSolidVerdict, IsFlatVerdict, IsHullVerdict, solid_mesh, flat_points, extrusion_mesh}
 use Rattle.scad_meaning.specs.Meaning.{design_of}
-use Rattle.scad_meaning.proofs.HeldPlaces.{Keeps}
-use Rattle.scad_meaning.proofs.InstancePlaces.{LetsThrough, shapes_alone, DesignHeld}
-use Rattle.scad_meaning.proofs.ProgramPlaces.{shapes_keep}
-use Rattle.scad_meaning.proofs.SoundShapes.{HasSides, HasFlatSides, outline_is_flat}
+use Rattle.scad_meaning.proofs.lemmas.HeldPlaces.{Keeps}
+use Rattle.scad_meaning.proofs.lemmas.InstancePlaces.{LetsThrough, shapes_alone, DesignHeld}
+use Rattle.scad_meaning.proofs.lemmas.ProgramPlaces.{shapes_keep}
+use Rattle.scad_meaning.proofs.lemmas.SoundShapes.{HasSides, HasFlatSides, outline_is_flat}
 use Rattle.source_laws.specs.SourceHulls.{IsHullShape, AreHullShapes}
 
 design_hulls : (P : Place → Type 0) (design : DesignTree) → DesignHeld P IsHullShape design → AreHullShapes design

@@ -163,8 +163,8 @@ elements_counted true (Gives turns (ListVal items)) =
     else so_many_counted (element_count (ListVal items))
 elements_counted counts outcome = no_cost
 
--- What an expression takes with so many evaluations in one another left, itself one of them; where none is left it is refused,
--- and that is one too
+-- What an expression takes with the given number of evaluations in one another left, itself one; where none is left it is
+-- refused, and that is one too
 unfoldable pub cost_within : ℕ → ExpressionCost
 cost_within zero counts calls env bindings expression turns = one_evaluation
 cost_within (suc n) counts calls env bindings expression turns =

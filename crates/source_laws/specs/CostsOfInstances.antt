@@ -1,7 +1,7 @@
 -- What an instance costs: one evaluation for itself and for each assignment, expression and instance that is evaluated for it,
 -- and what it counts. Each equation of the meaning has one here.
 use Rattle.std.specs.Prelude.{ℕ, zero, suc, true, ◌&&◌, nat_lt, nat_eq, List, [], ◌∷◌, ◌++◌, length, Option, Some, None, is_some, Ok, Err, codes, if◌then◌else◌}
-use Rattle.text_place.specs.declared.fault.Place.{Place}
+use Rattle.plain_text.specs.declared.place.Place.{Place}
 use Rattle.plane_predicate.specs.declared.unit.Unit.{Unit as LengthUnit}
 use Rattle.scad_ast.specs.Terms.{Term, BinderTerm, StatementTerms, InstanceTerm, CoreTerm, IfTerm, IfElseTerm, ForTerm, IntersectionForTerm, ModuleCallTerm, BodyTerm, ArgTerm, ArgTerms, no_args, and_named, and_special, and_positional, SpecialArgTerm, args_from}
 use Rattle.scad_value.specs.Values.{Val, Vals, no_vals, and_val, truth_of}
@@ -41,7 +41,7 @@ abbrev pub cost_unless_refused : Verdict → Cost → Cost
 cost_unless_refused None next = next
 cost_unless_refused (Some kind) next = no_cost
 
--- the evaluations of an expression of an instance, with so many in one another left
+-- the evaluations of an expression of an instance, with the given number in one another left
 abbrev pub cost_of_expression : ℕ → Context → Term → ℕ → Cost
 cost_of_expression evaluations here expression turns =
     cost_at_next_depth (cost_within evaluations) (expression_context evaluations here) true expression turns
@@ -273,8 +273,8 @@ cost_of_instance counting evaluator here instance turns leaves =
     then (if is_some here.inside then no_cost else cost_of_root counting evaluator here (core_of_instance instance) turns leaves)
     else cost_of_core counting evaluator here (core_of_instance instance) turns leaves
 
--- How many evaluations an instance takes with so many in one another left, itself one of them; where none is left it is refused,
--- and that counts too
+-- How many evaluations an instance takes with the given number in one another left, itself one; where none is left it is
+-- refused, and that counts too
 unfoldable pub cost_of_design_within : LengthUnit → Judge → ℕ → InstanceCost
 cost_of_design_within unit judge zero here instance turns leaves = one_evaluation
 cost_of_design_within unit judge (suc evaluations) here instance turns leaves =

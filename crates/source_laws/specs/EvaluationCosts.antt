@@ -23,7 +23,7 @@ no_cost = record { evaluations = 0; counted = 0 }
 abbrev pub one_evaluation : Cost
 one_evaluation = record { evaluations = 1; counted = 0 }
 
--- so many turns or leaves
+-- the given number of turns or leaves
 abbrev pub so_many_counted : ℕ → Cost
 so_many_counted n = record { evaluations = 0; counted = n }
 

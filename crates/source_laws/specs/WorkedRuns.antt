@@ -1,6 +1,6 @@
 -- A worked run: the program `for (i = [0 : 2]);`.
 use Rattle.std.specs.Prelude.{List, [], ◌∷◌, codes}
-use Rattle.text_place.specs.declared.fault.Place.{Place}
+use Rattle.plain_text.specs.declared.place.Place.{Place}
 use Rattle.scad_ast.specs.Terms.{NumberTerm, RangeTerm, InstanceStatement, StatementTerms, no_statements, and_statement, AnInstance, ForTerm, EmptyBody}
 
 -- somewhere: no cost depends on a place

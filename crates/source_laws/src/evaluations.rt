@@ -51,8 +51,8 @@ pub fn runs_take_few_evaluations()
         HasFewEvaluations (size_of_statements statements) (cost_of_program unit judge bindings statements) }
 {}
 
-/// A program's size is below the number of its tokens. So the evaluations of its run are at most its tokens, times the turns and
-/// leaves that it counts and one, times 66.
+/// A program's size is below the number of its tokens. So the evaluations of its run are at most its tokens, times the turns
+/// and leaves that it counts and one, times 66.
 pub fn programs_take_few_evaluations()
     ensures size { (depth : ℕ) (program : List StatementTerm) (tokens : List Token) →
         WholeProgram depth program tokens →

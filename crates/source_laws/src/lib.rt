@@ -1,5 +1,6 @@
-//! Laws of sources: each shape of a program is a hull, the tree that it means holds only within reach, and the evaluations of
-//! its run are bounded by its tokens and by the turns and leaves that it counts. They do nothing when they run.
+//! Laws of sources: each shape of a program is a hull, the tree that the program means contains only points within reach, and
+//! the evaluations of a run are bounded by the program's tokens and by the turns and leaves that the run counts. The laws do
+//! nothing when they run.
 #![tactic(auto)]
 
 mod evaluations;

@@ -23,14 +23,15 @@ use shape_hulls::{
     polyhedra_are_hulls_of_their_corners,
 };
 
-/// Each shape of the design of a program is the hull of its points, or, as a polyhedron, of those that are corners of its faces.
+/// Each shape of the design of a program is the hull of its points, or, as a polyhedron, of those that are corners of its
+/// faces.
 pub fn designs_are_of_hulls()
     ensures { (unit : LengthUnit) (program : List StatementTerm) (judge : Judge) (turns : ℕ)
         (design : DesignTree) → IsRightJudge judge →
         design_of unit judge first_bindings (statements_from program) ≡ Gives turns design →
         AreHullShapes design }
 {
-    // Each call brings a law alone: each kind of shape is the hull of its points.
+    // Each call is for its law, and does nothing when it runs: each kind of shape is the hull of its points.
     cubes_are_hulls_of_their_points();
     cylinders_are_hulls_of_their_points();
     extrusions_are_hulls_of_their_points();
@@ -43,7 +44,8 @@ pub fn placed_hulls_keep_within_reach()
     ensures { (design : DesignTree) (tree : Tree) → AreHullShapes design → IsPlacedAs design tree →
         LeavesKeepWithinReach tree }
 {
-    // Each call brings a law alone: what is behind all planes of a placed hull is within reach where its points are.
+    // Each call is for its law, and does nothing when it runs: what is behind all planes of a placed hull is within
+    // reach where its points are.
     placed_shapes_are_hulls_of_their_points();
     placed_shapes_are_hulls_of_their_corners();
 }
@@ -53,7 +55,8 @@ pub fn programs_keep_within_reach()
     ensures { (unit : LengthUnit) (program : List StatementTerm) (tree : Tree) →
         IsMeaning unit program (a_tree tree) → KeepsWithinReach tree }
 {
-    // Each call brings a law alone: some judge is right, the leaves of the tree hold only within reach, and so does it.
+    // Each call is for its law, and does nothing when it runs: some judge is right, the leaves of the tree hold only
+    // within reach, and so does it.
     shapes_have_one_verdict();
     designs_are_of_hulls();
     placed_hulls_keep_within_reach();

@@ -5,8 +5,8 @@ use Rattle.memo_core.specs.declared.memo.Fill.{Fill}
 use Rattle.memo_core.specs.declared.memo.Fill.TheVariants.{Kept, TooHeavy, NoMemory}
 
 -- One caller's share: how many parts of the books it has, and what was booked on it: probes that were
--- hits and misses, and fills that were kept, that were too heavy, and that were dropped for want of
--- memory.
+-- hits and misses, and fills that were kept, that were too heavy, and that were dropped where memory
+-- ran out.
 pub record ShareView : Type 0 where
   pub caller : ℕ
   pub parts : ℕ
@@ -20,7 +20,7 @@ pub record ShareView : Type 0 where
 abbrev pub parts_each : ℕ
 parts_each = 128
 
--- a fresh ledger is the one of this name and so many parts
+-- a fresh ledger is the one of this name and the given number of parts
 abbrev pub IsBlankLedger : ℕ → ℕ → Blank → Type 0
 IsBlankLedger name parts blank = (blank.name ≡ name) × (blank.parts ≡ parts)
 
@@ -55,7 +55,7 @@ joined_share a b = record {
   dropped = min (a.dropped + b.dropped) dropped_max;
 }
 
--- the shares of so many callers, by their numbers
+-- the shares of the given number of callers, by their numbers
 abbrev pub opened_shares : ℕ → List ShareView
 opened_shares zero = []
 opened_shares (suc n) = opened_shares n ++ fresh_share n parts_each ∷ []

@@ -13,8 +13,8 @@ module _ {K : Type 0} where
     pub kept : counts.kept ≡ count_in kept_count_of items
     pub heavy : counts.heavy ≡ count_in not_kept_count_of items
 
-  -- The tally of a journal, and of so many fills for which memory ran out and which stand in no journal. Kept or not, or out of
-  -- memory, each fill was offered.
+  -- The tally of a journal, and of the given number of fills for which memory ran out and which stand in no journal. Kept or
+  -- not, or out of memory, each fill was offered.
   abbrev pub tally_of : List (JournalRecord K) → ℕ → Tally
   tally_of items dropped = record {
     probes = count_in hit_count_of items + count_in miss_count_of items;

@@ -1,3 +1,5 @@
+//! The sequential memo together with the books that count its journal.
+
 ghost use Rattle.std.specs.Prelude.{◌≡◌, ◌<◌, [], ◌∷◌, ◌++◌, All, IfOk, OnErr, IfSome, IfNone};
 ghost use Rattle.std.specs.Prelude.{true};
 ghost use Rattle.std.specs.Arc.{arc_value};
@@ -11,10 +13,10 @@ ghost use Rattle.subtree_memo.specs.Allowed.{AreAllowed};
 use crate::ledgers::{AskPolicy, Books};
 use crate::share::{Share, dropped_sum};
 use memo_core::{DroppedEntries, Fill, Fit, MemoCore, Namer, Probe};
+use plain_text::NoMemory;
 use std::alloc::Global;
 use std::sync::Arc;
 use std::sync::ledger::{Book, Ledger};
-use text_place::NoMemory;
 
 /// A memo, and beside it the books of its journal's counts.
 #[derive(Drop)]

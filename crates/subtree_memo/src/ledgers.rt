@@ -1,3 +1,5 @@
+//! The ledgers on which a memo's hits, misses and fills are booked, packed into one type.
+
 ghost use Rattle.std.specs.Prelude.{◌≡◌, ◌*◌, ◌≤◌, ℕ};
 ghost use Rattle.subtree_memo.specs.Shares.{parts_each};
 
@@ -26,8 +28,8 @@ impl MemoLedger for Brand {
     ghost callers = { 0 };
 }
 
-/// Who may ask a memo for which keys. Each call of a program that opens a memo picks it: each item of the journal behind the lock is
-/// then of a caller who may ask for its key.
+/// Who may ask a memo for which keys. Each call of a program that opens a memo picks it: each item of the journal behind the
+/// lock is then of a caller who may ask for its key.
 pub trait AskPolicy<K> {
     ghost may_ask: { ℕ → K → Type 0 };
 }
@@ -86,7 +88,7 @@ pub struct Blanks {
 }
 
 impl Blanks {
-    /// The ledgers for so many callers.
+    /// The ledgers for the given number of callers.
     pub fn new(callers: u32) -> Blanks
         requires { (1 ≤ callers) × (callers ≤ 64) }
         ensures { result.callers ≡ callers }

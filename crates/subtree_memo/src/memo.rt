@@ -1,3 +1,5 @@
+//! The memo that threads share, behind a lock.
+
 ghost use Rattle.std.specs.Prelude.{◌≡◌, ◌<◌, All, sum_by, [], ◌∷◌, IfOk, OnErr, IfSome, IfNone};
 ghost use Rattle.std.specs.Prelude.{true};
 ghost use Rattle.std.specs.Arc.{arc_value};
@@ -12,10 +14,10 @@ use crate::ledgers::{AskPolicy, Blanks, Books};
 use crate::share::{Parts, Share, all_of, shares_of};
 use crate::tally::{Tally, counts_of};
 use memo_core::{Fill, Fit, MemoCore, Namer, Probe};
+use plain_text::NoMemory;
 use std::alloc::Global;
 use std::sync::ledger::Ledger;
 use std::sync::{Arc, Mutex, Wait};
-use text_place::NoMemory;
 
 /// A memo that threads share. Whenever its lock is free, the journal behind it is one of the sequential
 /// memo, and the books are the journal's counts.
@@ -102,7 +104,7 @@ impl<F: Fit, N: Namer<F::Key>, B: Books + AskPolicy<F::Key>> Memo<F, N, B> {
         self.lock.lock(rt).hit(alloc, share, key)
     }
 
-    /// Offers a value for a key. Each answer is booked as what it is, one for want of memory as dropped,
+    /// Offers a value for a key. Each answer is booked as what it is, one where memory ran out as dropped,
     /// and so each as one that was offered. What the fill drops is freed once the lock is free.
     pub fn fill<R: Wait>(
         &self,

@@ -1,16 +1,18 @@
+//! What one caller has booked on a memo.
+
 ghost use Rattle.std.specs.Prelude.{◌≡◌, ◌+◌, ◌-◌, ◌*◌, ◌≤◌, ◌<◌, min, sum_by, [], IfOk, IfSome, IfNone};
 ghost use Rattle.subtree_memo.specs.Shares.{fresh_share, joined_share, opened_shares, parts_each, dropped_max};
 
 use crate::ledgers::{Books, PARTS_EACH};
+use plain_text::NoMemory;
 use std::alloc::Global;
 use std::marker::Model;
 use std::mem;
 use std::sync::ledger::{Ledger, Share as Part};
-use text_place::NoMemory;
 
 /// One caller's share of the books of a memo, with what was booked on it: hits, misses, fills that were
-/// kept and fills that were too heavy, and a number of its own for fills that were dropped for want of
-/// memory, which stops at 2^48. Contracts see it as these numbers.
+/// kept and fills that were too heavy, and a number of its own for fills that were dropped where memory
+/// ran out, which stops at 2^48. Contracts see it as these numbers.
 #[derive(Drop)]
 pub struct Share<B: Books> {
     pub(crate) caller: u32,
@@ -45,7 +47,7 @@ impl<B: Books> Model for Share<B> {
 // Where the number of dropped fills stops.
 const DROPPED_MAX: u64 = 1 << 48;
 
-/// So many dropped fills and so many more.
+/// The given numbers of dropped fills together.
 pub fn dropped_sum(some: u64, more: u64) -> u64
     requires { (some ≤ dropped_max) × (more ≤ dropped_max) }
     ensures { result ≡ min (some + more) dropped_max }
@@ -175,7 +177,7 @@ fn share_of<B: Books>(caller: u32, parts: Parts<B>) -> Share<B>
     }
 }
 
-/// The shares of so many callers, with all parts of the books.
+/// The shares of the given number of callers, with all parts of the books.
 #[tactic(auto, using(crate::proofs::Opened::opened_more))]
 pub fn shares_of<B: Books>(
     alloc: Global,

@@ -1,4 +1,1 @@
-pub mod Decimals
 pub mod Words
-pub mod Stored
-pub mod Separators

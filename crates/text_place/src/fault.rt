@@ -1,16 +1,9 @@
+//! Faults of a source: what is wrong, and where.
+
 ghost use Rattle.std.specs.Prelude.{◌≡◌};
 ghost use Rattle.text_place.specs.Words.{word_of};
 
-use crate::memory::NoMemory;
-
-/// A place in a source.
-#[derive(Clone, Copy, Debug, PartialEq, Eq)]
-pub struct Place {
-    /// The line, from 1.
-    pub line: u32,
-    /// The byte within its line, from 1.
-    pub column: u32,
-}
+use plain_text::{NoMemory, Place};
 
 /// What can be wrong with a source.
 #[derive(Clone, Copy, Debug, PartialEq, Eq)]

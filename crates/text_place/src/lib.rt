@@ -1,16 +1,10 @@
-//! The words that all layers share: places and faults of a source, bytes, lines and numbers of a text, and want of memory.
+//! The words for what is wrong with a source, and where; text and its places are handed on from below.
 #![tactic(auto)]
 
-mod compact;
-mod decimal;
 mod fault;
-mod lists;
-mod memory;
-mod numeral;
 
-pub use compact::CompactBytes;
-pub use decimal::{one_numeral, push_decimal, read_decimal};
-pub use fault::{Fault, FaultKind, Place, Stop, word};
-pub use lists::{Bytes, Lines};
-pub use memory::NoMemory;
-pub use numeral::{Numeral, TOO_LARGE};
+pub use fault::{Fault, FaultKind, Stop, word};
+pub use plain_text::{
+    Bytes, CompactBytes, Lines, NoMemory, Numeral, Place, TOO_LARGE, one_numeral, push_decimal,
+    read_decimal,
+};

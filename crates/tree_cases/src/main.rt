@@ -1,10 +1,10 @@
 //! Answers cases of trees, in the form of `case_lines`. A case is phrases that put trees together, and ask for what they are:
-//! `nothing`, `leaf` of all planes, `box LOW HIGH`,
-//! `slabs AXIS FROM N`, `copy`, and `+`, `*` and `-` of the last two. `written` asks for the last one in a line, where a leaf
-//! stands by the last digits of its planes' offsets, `long` how long that line is, `alike` whether those of the last two are the
-//! same, and `halves` for the union by halves of all. `key` asks for the number of its bytes, `nodes` for the number of its
-//! nodes, `node N` for one, `same M N` for two keys, `size` for the size of its solid, and `export UNIT` for its text, or the
-//! limit that is passed, `export UNIT N` for the first N bytes. `workers N` has N workers export from there on.
+//! `nothing`, `leaf` of all planes, `box LOW HIGH`, `slabs AXIS FROM N`, `copy`, and `+`, `*` and `-` of the last two.
+//! `written` asks for the last tree in a line, where the last digits of its planes' offsets stand for a leaf, `long` for the
+//! length of that line, `alike` for whether the lines of the last two are the same, and `halves` for the union by halves of
+//! all. `key` asks for the number of its bytes, `nodes` for the number of its nodes, `node N` for one, `same M N` for two keys,
+//! `size` for the size of its solid, `export UNIT` for its text, or the limit that it exceeds, and `export UNIT N` for the
+//! first N bytes. `workers N` lets N workers export from there on.
 #![tactic(auto)]
 
 mod proper;

@@ -7,10 +7,10 @@ ghost use Rattle.csg_tree.specs.Trees.{plain_tree_of};
 
 use case_lines::{CaseStop, Walls};
 use csg_tree::{CsgTree, Op, Planes, join, joins_are_proper};
-use plane_predicate::Plane;
+use plain_text::NoMemory;
+use plane_predicate::{Plane, planes_keep_their_form};
 use std::alloc::Global;
 use std::marker::Model;
-use text_place::NoMemory;
 
 // The most subtrees of a tree that is joined.
 const MOST: u32 = 1_000_000;
@@ -86,7 +86,7 @@ fn add(planes: &mut Vec<Plane>, plane: Plane) -> Result<(), NoMemory>
     requires all { All IsLeafPlane planes.old.items }
     ensures all { OnOk result (All IsLeafPlane planes.new.items) }
 {
-    let _ = &plane.a;
+    planes_keep_their_form(&plane);
     planes.push(plane)?;
     Ok(())
 }
@@ -133,7 +133,7 @@ fn joined(alloc: Global, op: Op, left: CsgTree, right: CsgTree) -> Result<CsgTre
     if first > MOST || second > MOST {
         return Err(CaseStop::Unread);
     }
-    // Brings a law alone: joins of proper trees are proper.
+    // Called for its law; does nothing when it runs: joins of proper trees are proper.
     joins_are_proper();
     Ok(join(alloc, op, left, right)?)
 }

@@ -6,11 +6,10 @@ use bsp_boolean::{PlainBuilder, TreeStop, tree_solid};
 use case_lines::{CaseStop, found, put, put_number, put_stroked, unit_of};
 use csg_tree::{CsgNode, CsgStore, TreeKey};
 use plane_predicate::Unit;
-use reply_text::PassedLimit;
 use std::alloc::Global;
 use std::sync::Arc;
 use std::thread::Threads;
-use tree_export::{TreeExport, export_tree};
+use tree_export::{PassedLimit, TreeExport, export_tree};
 
 #[derive(Clone, Copy)]
 pub enum TreeAsking {
@@ -166,7 +165,7 @@ fn put_export<R: Threads + Sync>(
     Ok(())
 }
 
-/// What a phrase writes of a tree, whose export is cut and written by so many workers.
+/// What a phrase writes of a tree, whose export is cut and written by the given number of workers.
 pub fn ask_tree<R: Threads + Sync>(
     rt: &R,
     alloc: Global,

@@ -33,7 +33,8 @@ const PLANTINGS: [(&[u8], Planting); 10] = [
     (b"alike", Planting::Alike),
 ];
 
-// The union of so many slabs of an axis from a coordinate on, each joined to those before it, with a step between them.
+// The union of the given number of slabs of an axis from a coordinate on, each joined to those before it, with a step between
+// them.
 fn slabs(alloc: Global, axis: i64, from: i64, count: i64) -> Result<ProperTree, CaseStop> {
     let mut all = ProperTree::leaf(alloc, &slab_walls(alloc, axis, from)?)?;
     let mut at = from;

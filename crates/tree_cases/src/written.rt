@@ -3,8 +3,8 @@
 use crate::proper::ProperTree;
 use case_lines::{CaseStop, put};
 use csg_tree::{CsgTree, Op, balanced};
+use plain_text::NoMemory;
 use std::alloc::Global;
-use text_place::NoMemory;
 
 pub fn sign_of(op: Op) -> &'static [u8] {
     match op {

@@ -7,8 +7,8 @@ use Rattle.std.proofs.lemmas.List.Elements.{All-nil, All-get_or}
 use Rattle.csg_tree.specs.HalfSpaceTrees.{Tree, nothing}
 use Rattle.csg_tree.specs.Numberings.{tree_numbered, IsNumberIn}
 use Rattle.bsp_boolean.specs.TreeSolids.{most_solid_size, most_total_size, solid_size, total_size, AreWithinSizeLimits}
-use Rattle.reply_text.specs.declared.reply.PassedLimit.{PassedLimit}
-use Rattle.reply_text.specs.declared.reply.PassedLimit.TheVariants as limit
+use Rattle.export_limits.specs.declared.passed.PassedLimit.{PassedLimit}
+use Rattle.export_limits.specs.declared.passed.PassedLimit.TheVariants as limit
 use Rattle.tree_export.specs.Exports.{IsFirstPassed}
 
 -- without trees no limit is passed

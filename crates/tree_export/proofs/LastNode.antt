@@ -8,8 +8,8 @@ use Rattle.std.proofs.lemmas.List.Elements.{filter-append}
 use Rattle.csg_tree.specs.HalfSpaceTrees.{Tree, nothing, leaf, tree_join}
 use Rattle.csg_tree.specs.ProperTrees.{IsSomething}
 use Rattle.csg_tree.specs.Numberings.{height, occurrences, by_height, is_same_tree, distinct_trees, nodes_of, tree_numbered}
-use Rattle.csg_tree.proofs.Sameness.{tree_true}
-use Rattle.csg_tree.proofs.Distinct.{distinct_push}
+use Rattle.csg_tree.proofs.lemmas.Sameness.{tree_true}
+use Rattle.csg_tree.proofs.lemmas.Distinct.{distinct_push}
 
 abbrev has_height : ℕ → Tree → Bool
 has_height h tree = eqb (height tree) h

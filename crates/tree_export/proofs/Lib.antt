@@ -4,3 +4,4 @@ pub mod OneExport
 pub mod SomeExport
 pub mod SmallLeaves
 pub mod Solids
+pub mod WorkedBox

@@ -1,6 +1,6 @@
 -- A tree has one export, which is a text exactly where no limit is passed.
 use Rattle.std.proofs.Common.{◌≡◌, ◌↔◌, ◌<◌, ◌≤◌, List, [], length, refl, sym, ap, subst, ◌∙◌, inl, inr, arith}
-use Rattle.text_place.specs.Decimals.{numeral}
+use Rattle.plain_text.specs.Decimals.{numeral}
 use Rattle.plane_predicate.specs.declared.unit.Unit.{Unit as LengthUnit}
 use Rattle.plane_polygon.specs.Polygons.{Outline}
 use Rattle.csg_tree.specs.HalfSpaceTrees.{Tree, nothing}
@@ -8,8 +8,8 @@ use Rattle.csg_tree.specs.Numberings.{nodes_of}
 use Rattle.bsp_boolean.specs.Solids.{solid_of}
 use Rattle.facet_cut.specs.Facets.{facets_of}
 use Rattle.off_text.specs.Texts.{most_vertices, vertices_of, HasVertices}
-use Rattle.off_text.proofs.Unique.{one_corners, one_text}
-use Rattle.reply_text.specs.declared.reply.PassedLimit.{PassedLimit}
+use Rattle.off_text.proofs.lemmas.Unique.{one_corners, one_text}
+use Rattle.export_limits.specs.declared.passed.PassedLimit.{PassedLimit}
 use Rattle.tree_export.specs.declared.export.TreeExport.{TreeExport}
 use Rattle.tree_export.specs.declared.export.TreeExport.TheVariants as exported
 use Rattle.tree_export.specs.Exports.{empty_text, IsTextExport, IsTextOutcome, IsFacetOutcome, IsExported, PassesNoLimit}

@@ -10,8 +10,8 @@ use Rattle.bsp_boolean.specs.LeafSolids.{solid_of_leaf}
 use Rattle.bsp_boolean.specs.TreeSolids.{most_solid_size, solid_size, AreWithinSizeLimits}
 use Rattle.facet_cut.specs.Facets.{facets_of}
 use Rattle.off_text.specs.Texts.{corner_count, most_vertices, HasVertices}
-use Rattle.off_text.proofs.Bounds.Sizes.{leaf_size, leaf_facets, leaf_corners}
-use Rattle.off_text.proofs.Bounds.Vertices.{few_vertices}
+use Rattle.off_text.proofs.lemmas.Bounds.Sizes.{leaf_size, leaf_facets, leaf_corners}
+use Rattle.off_text.proofs.lemmas.Bounds.Vertices.{few_vertices}
 use Rattle.tree_export.specs.declared.export.TreeExport.{TreeExport}
 use Rattle.tree_export.specs.Exports.{IsTextExport, IsExported}
 use Rattle.tree_export.proofs.FirstPassed.{none_passed}

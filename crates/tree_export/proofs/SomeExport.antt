@@ -10,7 +10,7 @@ use Rattle.bsp_boolean.specs.Solids.{solid_of}
 use Rattle.facet_cut.specs.Facets.{facets_of}
 use Rattle.off_text.specs.Bounding.{IsBoundary}
 use Rattle.off_text.specs.Texts.{corner_count, most_corners, most_vertices, text_of_faces, vertices_of, AreCornersOf, HasVertices, IsTextOf}
-use Rattle.reply_text.specs.declared.reply.PassedLimit.TheVariants as limit
+use Rattle.export_limits.specs.declared.passed.PassedLimit.TheVariants as limit
 use Rattle.tree_export.specs.declared.export.TreeExport.{TreeExport}
 use Rattle.tree_export.specs.declared.export.TreeExport.TheVariants as exported
 use Rattle.tree_export.specs.Exports.{most_facets, IsTextOutcome, IsFacetOutcome, IsExported, IsBoundaryText}

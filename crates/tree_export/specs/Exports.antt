@@ -14,11 +14,11 @@ use Rattle.bsp_boolean.specs.declared.tree_solids.TreeStop.TheVariants.{TooBig, 
 use Rattle.bsp_boolean.specs.Solids.{solid_of}
 use Rattle.bsp_boolean.specs.TreeSolids.{AreWithinSizeLimits, IsTreeStop}
 use Rattle.facet_cut.specs.Facets.{facets_of}
-use Rattle.text_place.specs.Separators.{newline}
+use Rattle.plain_text.specs.Separators.{newline}
 use Rattle.off_text.specs.Texts.{corner_count, most_corners, most_vertices, HasVertices, IsTextOf}
 use Rattle.off_text.specs.Bounding.{IsBoundary}
-use Rattle.reply_text.specs.declared.reply.PassedLimit.{PassedLimit}
-use Rattle.reply_text.specs.declared.reply.PassedLimit.TheVariants as limit
+use Rattle.export_limits.specs.declared.passed.PassedLimit.{PassedLimit}
+use Rattle.export_limits.specs.declared.passed.PassedLimit.TheVariants as limit
 use Rattle.tree_export.specs.declared.export.TreeExport.{TreeExport}
 use Rattle.tree_export.specs.declared.export.TreeExport.TheVariants as exported
 

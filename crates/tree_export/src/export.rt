@@ -11,22 +11,22 @@ ghost use Rattle.bsp_tree.specs.Trees.{outside};
 ghost use Rattle.bsp_boolean.specs.Solids.{solid_of};
 ghost use Rattle.bsp_boolean.specs.TreeSolids.{AreWithinSizeLimits, IsTreeStop};
 ghost use Rattle.facet_cut.specs.Facets.{facets_of};
-ghost use Rattle.reply_text.specs.declared.reply.PassedLimit.{PassedLimit as Limit};
-ghost use Rattle.reply_text.specs.Sums.{IsSizeLimit};
+ghost use Rattle.export_limits.specs.declared.passed.PassedLimit.{PassedLimit as Limit};
+ghost use Rattle.export_limits.specs.Limits.{IsSizeLimit};
 ghost use Rattle.tree_export.specs.declared.export.TreeExport.TheVariants as exported;
 ghost use Rattle.tree_export.specs.Exports.{IsTextOutcome, IsFacetOutcome, IsExported, IsBoundaryText, IsSolidOutcome};
 
 use bsp_boolean::{PlainBuilder, TreeStop, tree_solid};
 use bsp_tree::Solid;
 use csg_tree::{CsgStore, CsgTree};
+use export_limits::PassedLimit;
 use facet_cut::{CutStop, Facet, facets_by};
 use off_text::{OffStop, off_bytes_by};
+use plain_text::{Bytes, NoMemory};
 use plane_predicate::Unit;
-use reply_text::PassedLimit;
 use std::alloc::Global;
 use std::sync::Arc;
 use std::thread::Threads;
-use text_place::{Bytes, NoMemory};
 
 // The most facets of an export.
 const FACETS: u32 = 20_000;
@@ -40,7 +40,7 @@ pub enum TreeExport {
     PassedLimit(PassedLimit),
 }
 
-// What facets within their limit give, by so many workers.
+// What facets within their limit give, by the given number of workers.
 fn write_facets<R: Threads + Sync>(
     rt: &R,
     alloc: Global,
@@ -60,7 +60,7 @@ fn write_facets<R: Threads + Sync>(
     }
 }
 
-// What a solid within the limits of size gives, by so many workers.
+// What a solid within the limits of size gives, by the given number of workers.
 fn cut_solid<R: Threads + Sync>(
     rt: &R,
     alloc: Global,
@@ -101,8 +101,8 @@ pub fn solid_of_nothing(alloc: Global) -> Result<Arc<Solid>, NoMemory>
     share(alloc, Solid::leaf(alloc, false))
 }
 
-/// The export of a tree as a text in units, from the solid of its last node or the first node that passes a limit of size, whose
-/// facets are cut and written by so many workers.
+/// The export of a tree as a text in units, from the solid of its last node or the first node that passes a limit of size,
+/// whose facets are cut and written by the given number of workers.
 ///
 /// `PassedLimit` tells the first limit that is passed: at the first node in order of number at which either is passed,
 /// that the node's solid is above 50,000 in size, or else that the solids up to it are above 500,000 together; then

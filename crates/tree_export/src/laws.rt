@@ -2,6 +2,7 @@
 
 ghost use Rattle.std.specs.Prelude.{◌≡◌, ◌<◌, ◌≤◌, ◌↔◌, ℕ, List, length};
 ghost use Rattle.plane_predicate.specs.declared.unit.Unit.{Unit as LengthUnit};
+ghost use Rattle.plane_predicate.specs.declared.unit.Unit.TheVariants.{Whole};
 ghost use Rattle.plane_predicate.specs.Space.{Coefficients};
 ghost use Rattle.csg_tree.specs.HalfSpaceTrees.{Tree, nothing, leaf};
 ghost use Rattle.csg_tree.specs.Numberings.{nodes_of, tree_numbered};
@@ -12,6 +13,7 @@ ghost use Rattle.bsp_boolean.specs.TreeSolids.{AreWithinSizeLimits};
 ghost use Rattle.tree_export.specs.declared.export.TreeExport.{TreeExport};
 ghost use Rattle.tree_export.specs.declared.export.TreeExport.TheVariants as exported;
 ghost use Rattle.tree_export.specs.Exports.{empty_text, IsBoundaryText, IsTextExport, IsExported, PassesNoLimit};
+ghost use Rattle.tree_export.specs.Worked.{worked_box, worked_box_text};
 
 use bsp_boolean::{one_tree_more, solids_are_their_trees};
 use facet_cut::facets_are_polygons;
@@ -28,7 +30,7 @@ pub fn some_export()
     ensures { (unit : LengthUnit) (tree : Tree) → IsProper tree → (out : TreeExport) ×
         IsExported unit tree out × IsBoundaryText unit tree out }
 {
-    // Each call brings a law alone.
+    // Each call is for its law, and does nothing when it runs.
     one_tree_more();
     solids_are_their_trees();
     facets_are_polygons();
@@ -64,4 +66,9 @@ pub fn last_nodes_are_trees()
     ensures none { (tree : Tree) → length (nodes_of tree) ≡ 0 → outside ≡ solid_of tree }
     ensures within { (tree : Tree) → length (nodes_of tree) ≡ 0 →
         AreWithinSizeLimits (nodes_of tree) }
+{}
+
+/// A worked export: the box from (0, 0, 0) to (1, 2, 3) has the text of its 8 vertices and 6 faces.
+pub fn a_box_has_its_text()
+    ensures { IsExported Whole worked_box (exported.Text worked_box_text) }
 {}

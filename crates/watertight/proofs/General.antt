@@ -2,20 +2,20 @@
 use Rattle.std.proofs.Common.{◌≡◌, ◌≢◌, ◌⊎◌, inl, inr, ℕ, zero, suc, ◌+◌, ◌≤◌, Bool, true, false, List, [], ◌∷◌, refl, sym, ap, ◌∙◌, subst, true≢false, arith, ℤ, pos, ◌+ℤ◌, ◌-ℤ◌, ◌*ℤ◌, ◌<ℤ◌, unsigned_abs}
 use Rattle.std.proofs.Math.IntN.{*ℤ-zero}
 use Rattle.plane_predicate.specs.Space.{Coefficients, Coordinates, value, opposite_of, IsPlane, HasItsPointsOn}
-use Rattle.plane_predicate.proofs.IntegerRing.{sums}
-use Rattle.plane_predicate.proofs.Polynomials.{var, plus, times, num, ring}
-use Rattle.plane_predicate.proofs.Vectors.{form, of_plane, determinantP}
-use Rattle.plane_predicate.proofs.Signs.{signs, zero_cancel}
-use Rattle.plane_predicate.proofs.SamePlanes.{directed_above, equal_or_opposite}
-use Rattle.bsp_tree.proofs.Openness.{more_below, more_above}
+use Rattle.plane_predicate.proofs.lemmas.IntegerRing.{sums}
+use Rattle.plane_predicate.proofs.lemmas.Polynomials.{var, plus, times, num, ring}
+use Rattle.plane_predicate.proofs.lemmas.Vectors.{form, of_plane, determinantP}
+use Rattle.plane_predicate.proofs.lemmas.Signs.{signs, zero_cancel}
+use Rattle.plane_predicate.proofs.lemmas.SamePlanes.{directed_above, equal_or_opposite}
+use Rattle.bsp_tree.proofs.lemmas.Openness.{more_below, more_above}
 use Rattle.closed_surface.specs.Ways.{Direction, displacement, dot_product, slope, line_of}
 use Rattle.closed_surface.specs.Around.{triple_product_of}
 use Rattle.closed_surface.specs.Near.{direction_beside}
-use Rattle.closed_surface.proofs.Near.{slope_beside}
-use Rattle.closed_surface.proofs.Numbers.{not_zero_below, not_zero_above}
-use Rattle.closed_surface.proofs.Parallels.{IsZero, along_dot, line_turn, slope_way, zero_by_length}
-use Rattle.closed_surface.proofs.Lines.{IsEither, is_either, either_parts, either_is}
-use Rattle.closed_surface.proofs.Each.{Each, each_weaker, each_both}
+use Rattle.closed_surface.proofs.lemmas.Near.{slope_beside}
+use Rattle.closed_surface.proofs.lemmas.Numbers.{not_zero_below, not_zero_above}
+use Rattle.closed_surface.proofs.lemmas.Parallels.{IsZero, along_dot, line_turn, slope_way, zero_by_length}
+use Rattle.closed_surface.proofs.lemmas.Lines.{IsEither, is_either, either_parts, either_is}
+use Rattle.closed_surface.proofs.lemmas.Each.{Each, each_weaker, each_both}
 
 -- ---- two planes through a point whose line has no direction have the same points
 pub minus_zero : (u x w y : ℤ) → x ≡ pos 0 → y ≡ pos 0 → u *ℤ x -ℤ w *ℤ y ≡ pos 0

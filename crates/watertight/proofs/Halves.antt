@@ -3,14 +3,14 @@ use Rattle.std.proofs.Common.{◌≡◌, ◌≢◌, ◌⊎◌, inl, inr, ℕ, �
 use Rattle.std.specs.List.{list_any}
 use Rattle.std.proofs.lemmas.Bool.{and_parts, and_from, or_left, or_right, or_cases, true≢false}
 use Rattle.plane_predicate.specs.Space.{Coordinates}
-use Rattle.plane_predicate.proofs.IntegerRing.{sums, mul_comm_ℤ}
-use Rattle.plane_predicate.proofs.Polynomials.{Poly, var, plus, times, minus, ring}
-use Rattle.plane_predicate.proofs.Signs.{signs, pos_pos}
+use Rattle.plane_predicate.proofs.lemmas.IntegerRing.{sums, mul_comm_ℤ}
+use Rattle.plane_predicate.proofs.lemmas.Polynomials.{Poly, var, plus, times, minus, ring}
+use Rattle.plane_predicate.proofs.lemmas.Signs.{signs, pos_pos}
 use Rattle.closed_surface.specs.Ways.{Direction, displacement, dot_product, cross_product, is_same_point_of_space, is_same_direction, is_opposite_direction}
 use Rattle.closed_surface.specs.Closed.{Edge, count_of_edges_along, count_of_edges_against, edges_of, runs_through, is_corner}
-use Rattle.closed_surface.proofs.Numbers.{same_tests, false_by}
-use Rattle.closed_surface.proofs.Parallels.{IsZero, dot_above, same_place_is, opposite_way_is, opposite_way_parts}
-use Rattle.closed_surface.proofs.Each.{Each, each_weaker, each_both}
+use Rattle.closed_surface.proofs.lemmas.Numbers.{same_tests, false_by}
+use Rattle.closed_surface.proofs.lemmas.Parallels.{IsZero, dot_above, same_place_is, opposite_way_is, opposite_way_parts}
+use Rattle.closed_surface.proofs.lemmas.Each.{Each, each_weaker, each_both}
 use Rattle.watertight.specs.Everywhere.{AreClosedAtEveryPoint}
 use Rattle.watertight.specs.Pieces.{lies_from_start, lies_before_end, runs_along, has_no_corner_within, count_of_edges_over}
 use Rattle.watertight.proofs.Lists.{HaveBoth, edges_have, none_has, all_corners, each_face, both_faces, same_count, none_count}

@@ -6,7 +6,7 @@ use Rattle.closed_surface.specs.Closed.{Edge, edges_of}
 use Rattle.std.proofs.lemmas.Bool.{or_parts}
 use Rattle.std.proofs.lemmas.List.Folds.{list_any-append}
 use Rattle.std.proofs.lemmas.List.Sums.{sum_by-append}
-use Rattle.closed_surface.proofs.Each.{Each, each_append, each_both, each_from_all, each_weaker}
+use Rattle.closed_surface.proofs.lemmas.Each.{Each, each_append, each_both, each_from_all, each_weaker}
 
 -- both ends of an edge have it
 abbrev pub HaveBoth : (Coordinates → Type 0) → Edge → Type 0

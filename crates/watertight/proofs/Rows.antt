@@ -7,9 +7,9 @@ use Rattle.std.proofs.lemmas.Bool.{and_parts}
 use Rattle.std.proofs.lemmas.Bool.Decides.{Decides-eqb}
 use Rattle.plane_predicate.specs.declared.unit.Unit.TheVariants.{Whole}
 use Rattle.plane_predicate.specs.Space.{Coefficients, Coordinates, value, orientation_seen_from, opposite_of, IsPlane}
-use Rattle.plane_predicate.proofs.IntegerRing.{sums}
-use Rattle.plane_predicate.proofs.Polynomials.{var, num, plus, times, minus, ring}
-use Rattle.plane_predicate.proofs.Vectors.{Form, place, of_point, valueP}
+use Rattle.plane_predicate.proofs.lemmas.IntegerRing.{sums}
+use Rattle.plane_predicate.proofs.lemmas.Polynomials.{var, num, plus, times, minus, ring}
+use Rattle.plane_predicate.proofs.lemmas.Vectors.{Form, place, of_point, valueP}
 use Rattle.csg_tree.specs.declared.op.Op.TheVariants.{Union}
 use Rattle.csg_tree.specs.HalfSpaceTrees.{Tree, leaf, tree_join, sides_of}
 use Rattle.bsp_tree.specs.Cells.{AllBehind}
@@ -18,7 +18,7 @@ use Rattle.closed_surface.specs.Closed.{edges_of, corners_at, count_of_edges_alo
 use Rattle.off_text.specs.Boundaries.{grid_corner, FacesPlane, FaceCovers}
 use Rattle.watertight.specs.Everywhere.{IsClosedAtEveryPoint}
 use Rattle.watertight.specs.Pieces.{has_no_corner_within, count_of_edges_over}
-use Rattle.closed_surface.proofs.Numbers.{below_back}
+use Rattle.closed_surface.proofs.lemmas.Numbers.{below_back}
 use Rattle.watertight.specs.Overlaps.{ShareNoInnerPointInAPlane}
 use Rattle.csg_tree.specs.Reach.{KeepsWithinReach, LeavesKeepWithinReach}
 use Rattle.plane_predicate.specs.Indices.{index_after}
@@ -37,7 +37,8 @@ abbrev Run : List Coordinates → List (List ℕ) → Coordinates → Direction 
 Run vertices faces q v one other =
     (count_of_edges_along (flat_map edges_of (map (corners_at vertices) faces)) q v ≡ one) × (count_of_edges_against (flat_map edges_of (map (corners_at vertices) faces)) q v ≡ other)
 
--- whether no corner is strictly between the two points, and how many edges run along the part from the one to the other, and back
+-- whether no corner is strictly between the two points, and how many edges run along the part from the one to the other, and
+-- back
 abbrev Part : List Coordinates → List (List ℕ) → Coordinates → Coordinates → Bool → ℕ → ℕ → Type 0
 Part vertices faces p q free one other =
     (has_no_corner_within (map (corners_at vertices) faces) (p, q) ≡ free)

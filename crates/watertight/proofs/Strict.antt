@@ -1,27 +1,27 @@
--- A point strictly inside a face of a boundary is strictly inside the world box: its plane comes within reach, so it is no side of
--- the box.
+-- A point strictly inside a face of a boundary is strictly inside the world box: its plane comes within reach, so it is no side
+-- of the box.
 use Rattle.std.proofs.Common.{◌≡◌, inl, inr, ℕ, ◌<◌, ◌≤◌, List, [], ◌∷◌, length, get_or, sym, ap, ◌∙◌, subst, arith, ℤ, pos, ◌-ℤ◌, ◌*ℤ◌, ◌<ℤ◌, ◌≤ℤ◌, neg_ℤ, refl}
 use Rattle.std.proofs.Math.IntN.{*ℤ-zero}
 use Rattle.plane_predicate.specs.declared.unit.Unit.{Unit as LengthUnit}
 use Rattle.plane_predicate.specs.Space.{Coefficients, Coordinates, value, opposite_of, IsPlane, IsInReach, IsInWorld, IsInClosedWorld, ComesInReach}
 use Rattle.plane_predicate.specs.Units.{grid_steps_per_unit}
 use Rattle.plane_predicate.specs.InUnits.{in_steps}
-use Rattle.plane_predicate.proofs.IntegerRing.{sums}
-use Rattle.plane_predicate.proofs.Polynomials.{Poly, var, plus, times, minus, ring}
-use Rattle.plane_predicate.proofs.Vectors.{Place, form, place, of_plane, of_point, valueP, value-opposite}
-use Rattle.plane_predicate.proofs.Signs.{signs, least_cancel}
+use Rattle.plane_predicate.proofs.lemmas.IntegerRing.{sums}
+use Rattle.plane_predicate.proofs.lemmas.Polynomials.{Poly, var, plus, times, minus, ring}
+use Rattle.plane_predicate.proofs.lemmas.Vectors.{Place, form, place, of_plane, of_point, valueP, value-opposite}
+use Rattle.plane_predicate.proofs.lemmas.Signs.{signs, least_cancel}
 use Rattle.csg_tree.specs.HalfSpaceTrees.{Tree, nothing, leaf, tree_join, IsPlaneOf}
 use Rattle.csg_tree.specs.FacePlanes.{IsFacePlane}
 use Rattle.csg_tree.specs.ProperTrees.{IsLeafPlane, HasFullLeaves}
 use Rattle.bsp_tree.specs.Cells.{world_box, AllBehind, NoneAhead}
-use Rattle.bsp_tree.proofs.Worlds.{open_world, closed_world, reach_in_box}
+use Rattle.bsp_tree.proofs.lemmas.Worlds.{open_world, closed_world, reach_in_box}
 use Rattle.closed_surface.specs.Ways.{Direction, displacement, slope}
 use Rattle.closed_surface.specs.Near.{near_point}
-use Rattle.closed_surface.proofs.Near.{near_on}
+use Rattle.closed_surface.proofs.lemmas.Near.{near_on}
 use Rattle.off_text.specs.Boundaries.{face_corner, grid_corner, FaceCovers}
 use Rattle.watertight.proofs.General.{minus_zero, least_itself}
-use Rattle.watertight.proofs.Inner.{inner_not_ahead}
-use Rattle.watertight.proofs.Nearby.{several, moved, face_slopes, still_covers, points_too}
+use Rattle.watertight.proofs.lemmas.Inner.{inner_not_ahead}
+use Rattle.watertight.proofs.lemmas.Nearby.{several, moved, face_slopes, still_covers, points_too}
 
 -- ---- a face plane comes within reach
 leaf_reach : (f : Tree) (m : Coefficients) → HasFullLeaves f → IsPlaneOf m f → ComesInReach m

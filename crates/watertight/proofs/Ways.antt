@@ -5,12 +5,12 @@ use Rattle.std.proofs.Math.IntN.{*ℤ-zero}
 use Rattle.std.proofs.lemmas.Bool.{and_parts}
 use Rattle.std.proofs.lemmas.Bool.Decides.{Decides-int_eq}
 use Rattle.plane_predicate.specs.Space.{Coordinates, minor}
-use Rattle.plane_predicate.proofs.IntegerRing.{sums, mul_comm_ℤ, mul_neg_left, mul_neg_right}
-use Rattle.plane_predicate.proofs.Polynomials.{Poly, var, plus, times, minus, ring}
-use Rattle.plane_predicate.proofs.Signs.{signs, pos_pos, least_least, pos_cancel, zero_cancel}
+use Rattle.plane_predicate.proofs.lemmas.IntegerRing.{sums, mul_comm_ℤ, mul_neg_left, mul_neg_right}
+use Rattle.plane_predicate.proofs.lemmas.Polynomials.{Poly, var, plus, times, minus, ring}
+use Rattle.plane_predicate.proofs.lemmas.Signs.{signs, pos_pos, least_least, pos_cancel, zero_cancel}
 use Rattle.closed_surface.specs.Ways.{Direction, displacement, dot_product, cross_product, is_same_point_of_space, is_same_direction, is_opposite_direction}
-use Rattle.closed_surface.proofs.Numbers.{not_zero_above}
-use Rattle.closed_surface.proofs.Parallels.{IsZero, along_dot, along_cross, dot_above, same_way_is, same_way_parts, same_place_is}
+use Rattle.closed_surface.proofs.lemmas.Numbers.{not_zero_above}
+use Rattle.closed_surface.proofs.lemmas.Parallels.{IsZero, along_dot, along_cross, dot_above, same_way_is, same_way_parts, same_place_is}
 
 -- ---- u is g times a number above 0
 pub record Along (g u : Direction) : Type 0 where

@@ -14,16 +14,16 @@ ghost use Rattle.watertight.specs.Overlaps.{ShareNoInnerPointInAPlane};
 ghost use Rattle.watertight.specs.Pieces.{has_no_corner_within, count_of_edges_over};
 ghost use Rattle.watertight.specs.WatertightFaces.{AreWatertight};
 
-/// Faces that are closed inside the world box, and whose vertices are strictly inside it, are closed at every point of space that
-/// is no corner.
+/// Faces that are closed inside the world box, and whose vertices are strictly inside it, are closed at every point of space
+/// that is no corner.
 pub fn closed_at_every_point()
     ensures { (unit : LengthUnit) (vertices : List Coordinates) (faces : List (List ℕ)) →
         All (λ p. IsInWorld (in_steps unit p)) vertices → IsClosedSurface unit vertices faces →
         IsClosedAtEveryPoint vertices faces }
 {}
 
-/// Where faces are closed at every point, each directed elementary edge stands as often as its reverse: between two points with no
-/// corner strictly between them, as many edges run one way as the other.
+/// Where faces are closed at every point, each directed elementary edge stands as often as its reverse: between two points with
+/// no corner strictly between them, as many edges run one way as the other.
 pub fn elementary_edges_pair()
     ensures { (faces : List (List Coordinates)) →
         All (λ corners. All (λ p. pos 0 <ℤ p.w) corners) faces → AreClosedAtEveryPoint faces →

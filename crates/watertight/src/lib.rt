@@ -1,4 +1,4 @@
-//! Watertight: what closed faces tell at every point of space, as laws, which do nothing when they run.
+//! Laws of watertight texts, which do nothing when they run: what closed faces imply at every point of space.
 #![tactic(auto)]
 
 mod laws;

@@ -107,7 +107,11 @@ export class CodeEditor {
     const to = Math.max(from + 1, Math.min(end, length));
     const shown = from < length ? [from, to] : [Math.max(0, length - 1), length];
     return [
-      this.editor.markText({ line: at, ch: shown[0] }, { line: at, ch: shown[1] }, { className: `marked ${kind}`, title: said }),
+      this.editor.markText(
+        { line: at, ch: shown[0] },
+        { line: at, ch: shown[1] },
+        { className: `marked ${kind}`, title: said },
+      ),
     ];
   }
 

@@ -139,7 +139,10 @@ class Parameters {
       const fields = Array.from({ length: count }, () => made("input", { type: "number", ...bounds }));
       fields.forEach((it, at) => {
         it.setAttribute("aria-label", `${name}, number ${at + 1}`);
-        it.addEventListener("input", () => fields.every((one) => one.value !== "") && set(`[${fields.map((one) => one.value).join(", ")}]`));
+        it.addEventListener("input", () => {
+          const values = fields.map((one) => one.value);
+          if (values.every((value) => value !== "")) set(`[${values.join(", ")}]`);
+        });
       });
       return fields;
     }
@@ -213,7 +216,8 @@ class Told {
   #item(it, kind) {
     const where = it.line ? `${it.file}:${it.line}:${it.column}` : (it.file ?? "");
     const item = made("button", { type: "button", className: `told ${kind}` });
-    item.append(made("b", { textContent: it.word ?? "note" }), " ", it.message, " ", made("span", { className: "where", textContent: where }));
+    const place = made("span", { className: "where", textContent: where });
+    item.append(made("b", { textContent: it.word ?? "note" }), " ", it.message, " ", place);
     if (it.cure) {
       item.append(made("span", { className: "cure", textContent: `cure: ${it.cure}` }));
     }
@@ -535,7 +539,11 @@ class Live {
     const faults = answer.faults ?? [];
     const found = answer.solid ? solidOf(answer.solid, answer.unit ?? "1") : null;
     if (answer.solid && !found) {
-      faults.push({ word: "Empty", message: "this source makes no solid at all", cure: "look for a * or %, an if, or a difference that leaves nothing" });
+      faults.push({
+        word: "Empty",
+        message: "this source makes no solid at all",
+        cure: "look for a * or %, an if, or a difference that leaves nothing",
+      });
     }
     if (found) {
       this.#draw(new Solid(found.drawn));
@@ -550,7 +558,8 @@ class Live {
     element("empty").hidden = Boolean(this.page);
     element("download").disabled = !found;
     this.told.show(faults, answer.notes);
-    this.editor.mark([...faults.map((it) => ["fault", it]), ...answer.notes.map((it) => ["note", it])].flatMap((it) => this.#place(...it)));
+    const told = [...faults.map((it) => ["fault", it]), ...answer.notes.map((it) => ["note", it])];
+    this.editor.mark(told.flatMap((it) => this.#place(...it)));
     this.parameters.show(answer.parameters);
     document.documentElement.dataset.shown = this.#answered;
     document.documentElement.dataset.faults = faults.map(({ word }) => word).join(" ");
@@ -560,7 +569,8 @@ class Live {
     if (!it.line || it.file !== (this.#file ?? "source.scad")) {
       return [];
     }
-    return [{ kind, line: it.line, start: it.start ?? 0, end: it.end ?? 0, said: it.cure ? `${it.message}\n${it.cure}` : it.message }];
+    const said = it.cure ? `${it.message}\n${it.cure}` : it.message;
+    return [{ kind, line: it.line, start: it.start ?? 0, end: it.end ?? 0, said }];
   }
 
   #draw(solid) {

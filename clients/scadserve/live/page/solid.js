@@ -1,10 +1,10 @@
-// From a 4OFF text to what the viewer draws and what is told of the solid, exactly.
+// From a 4OFF text to what the viewer draws and what is said about the solid, exactly.
 //
-// A plane has the loops round the faces on it, without the ways between these, as `planes` of view/page.py finds them for pages of
-// off2html. Numbers are those of JavaScript where all corners are whole, since nothing is rounded then, and BigInts else: the
-// same operators work on both, as long as they aren't mixed.
+// A plane has the loops around the faces on it, without the ways between these, as `planes` of view/page.py finds them for
+// pages of off2html. Numbers are those of JavaScript where all corners are whole, since nothing is rounded then, and otherwise
+// BigInts: the same operators work on both, as long as they aren't mixed.
 
-// Decimals of so many places at most are shown as such, and other fractions of so many digits.
+// Decimals of this many places at most are shown as such, and other fractions of this many digits.
 const MOST_PLACES = 12;
 const MOST_DIGITS = 100;
 // A volume with a denominator of more digits is told by a number with a point.
@@ -150,7 +150,7 @@ function drawn({ texts, corners, faces }) {
   return { corners: [...numbers.keys()].map((corner) => texts[corner]), planes };
 }
 
-/** The fraction over/under, of BigInts, in digits: decimals where they are exact and short, else a fraction or about a number. */
+/** over/under, of BigInts, as digits: decimals where they are exact and short, else a fraction or about a number. */
 function shown([over, under]) {
   const common = divisor(over, under);
   const [numerator, denominator] = [over / common, under / common];
@@ -167,7 +167,7 @@ function shown([over, under]) {
   return text.length <= MOST_DIGITS ? text : `about ${Number((Number(numerator) / Number(denominator)).toPrecision(12))}`;
 }
 
-/** The volume as a fraction of BigInts, by tetrahedra from the origin over the faces; or a number where that would be too long. */
+/** The volume as a fraction of BigInts, by tetrahedra from the origin over the faces; a number where that is too long. */
 function volume({ corners, faces }) {
   const parts = new Map();
   for (const face of faces) {
@@ -204,7 +204,7 @@ function range(corners, axis) {
   return [low, high].map((corner) => [BigInt(corner[axis]), BigInt(corner[3])]);
 }
 
-/** What is told of a solid of which a unit is so many millimetres: how many faces, how large, and how much is in it. */
+/** What is said about a solid of which a unit is this many millimetres: how many faces, how large, and how much is in it. */
 function facts(solid, unit) {
   const [over, under = 1n] = unit.split("/").map(BigInt);
   const inMillimetres = ([top, below]) => [top * over, below * under];

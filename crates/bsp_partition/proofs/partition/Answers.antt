@@ -2,9 +2,9 @@ use Rattle.std.proofs.Common.{◌≡◌, sym, subst}
 use Rattle.std.proofs.lemmas.Result.{IfOk-weaker}
 use Rattle.bsp_tree.specs.Shapes.{tree_of}
 use Rattle.bsp_tree.specs.Partitions.{divide, AreOfHalves, HaveNoNewPlane, KeepWalks}
-use Rattle.bsp_tree.proofs.DividedWalks.{divide_keeps}
-use Rattle.bsp_tree.proofs.DividedHalves.{divide_halves}
-use Rattle.bsp_tree.proofs.DividedPlanes.{divide_planes}
+use Rattle.bsp_tree.proofs.lemmas.DividedWalks.{divide_keeps}
+use Rattle.bsp_tree.proofs.lemmas.DividedHalves.{divide_halves}
+use Rattle.bsp_tree.proofs.lemmas.DividedPlanes.{divide_planes}
 use Rattle.bsp_partition.proofs.partition.Goals as goal
 
 pub returns-clause-walks : goal.returns-clause-walks

@@ -1,4 +1,4 @@
-use Rattle.scad_grammar.proofs.Counts.{few_begun}
+use Rattle.scad_grammar.proofs.lemmas.Counts.{few_begun}
 use Rattle.scad_grammar.proofs.few_definitions.Goals as goal
 
 pub returns : goal.returns

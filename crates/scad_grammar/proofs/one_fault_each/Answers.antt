@@ -1,4 +1,4 @@
-use Rattle.scad_grammar.proofs.FirstFaults.{one_fault}
+use Rattle.scad_grammar.proofs.lemmas.FirstFaults.{one_fault}
 use Rattle.scad_grammar.proofs.one_fault_each.Goals as goal
 
 pub returns : goal.returns

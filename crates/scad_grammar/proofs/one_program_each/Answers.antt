@@ -1,4 +1,4 @@
-use Rattle.scad_grammar.proofs.Programs.{one_program}
+use Rattle.scad_grammar.proofs.lemmas.Programs.{one_program}
 use Rattle.scad_grammar.proofs.one_program_each.Goals as goal
 
 pub returns : goal.returns

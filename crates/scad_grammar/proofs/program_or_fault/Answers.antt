@@ -1,4 +1,4 @@
-use Rattle.scad_grammar.proofs.FirstFaults.{program_or_fault}
+use Rattle.scad_grammar.proofs.lemmas.FirstFaults.{program_or_fault}
 use Rattle.scad_grammar.proofs.program_or_fault.Goals as goal
 
 pub returns : goal.returns

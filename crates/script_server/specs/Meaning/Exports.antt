@@ -45,9 +45,10 @@ AnswersMeaning unit source (reply.Faulted fault) = HasSourceFault unit source fa
 AnswersMeaning unit source (reply.PassedLimit passed) = (tree : Tree) × Means unit source tree
 AnswersMeaning unit source _ = ⊥
 
--- What an export is answered.
+-- What an export is answered. The meaning follows from the rule, which the law `the_rule_gives_the_meaning` says: it stands first
+-- since it is what a reader has to believe.
 pub record AnswersExport (unit : LengthUnit) (source : List ℕ) (r : Reply) : Type 0 where
-  -- what whoever makes the part has to believe of the reply
+  -- what a maker of the part has to believe of the reply
   pub meaning : AnswersMeaning unit source r
   -- which text it is, and which limit comes in place of a text
   pub rule : AnswersSource unit source r

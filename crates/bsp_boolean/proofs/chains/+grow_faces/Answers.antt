@@ -1,5 +1,5 @@
 use Rattle.std.proofs.Common.{false, arith}
-use Rattle.bsp_tree.proofs.Growths.{leaf_grows}
+use Rattle.bsp_tree.proofs.lemmas.Growths.{leaf_grows}
 use Rattle.bsp_boolean.proofs.FaceChains.{more_grown, none_grown}
 use Rattle.bsp_boolean.proofs.chains.+grow_faces.Goals as goal
 

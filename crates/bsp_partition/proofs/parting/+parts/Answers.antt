@@ -9,7 +9,7 @@ use Rattle.plane_table.specs.Faces.{outline_of}
 use Rattle.plane_table.specs.Cuts.{part_in}
 use Rattle.bsp_tree.specs.Trees.{BspTree}
 use Rattle.bsp_tree.specs.Growths.{tree_on}
-use Rattle.bsp_tree.proofs.Sheets.{stood_on}
+use Rattle.bsp_tree.proofs.lemmas.Sheets.{stood_on}
 use Rattle.bsp_tree.specs.Partitions.{parts_where_across, divide, parts_by_class}
 use Rattle.bsp_partition.specs.Parts.{parts_off_plane, trees_on, HasParts}
 use Rattle.bsp_partition.proofs.SheetParts.{end_parts, sides_parted, across_parted}

@@ -1,6 +1,6 @@
 use Rattle.std.proofs.Common.{◌∙◌, sym}
 use Rattle.plane_table.specs.Faces.{outline_of}
-use Rattle.bsp_tree.proofs.Growths.{other_make}
+use Rattle.bsp_tree.proofs.lemmas.Growths.{other_make}
 use Rattle.bsp_partition.proofs.SheetParts.{same_made, node_made}
 use Rattle.bsp_partition.proofs.parting.make_node.Goals as goal
 

@@ -4,7 +4,7 @@ use Rattle.plane_predicate.specs.Space.{Coefficients, Coordinates}
 use Rattle.bsp_tree.specs.Trees.{BspTree, complement, walk}
 use Rattle.bsp_tree.specs.Cells.{HasPlanesOf, IsOfCell}
 use Rattle.bsp_tree.specs.Shapes.{tree_of}
-use Rattle.bsp_tree.proofs.Complements.{complement_walks, complement_planes, complement_cells}
+use Rattle.bsp_tree.proofs.lemmas.Complements.{complement_walks, complement_planes, complement_cells}
 use Rattle.bsp_tree.proofs.exchanging.exchange.Goals as goal
 
 pub returns-clause-walks : goal.returns-clause-walks

@@ -1,5 +1,5 @@
 use Rattle.std.proofs.Common.{◌∙◌, ◌++◌, ap}
-use Rattle.bsp_tree.proofs.Wholes.{whole_tree}
+use Rattle.bsp_tree.proofs.lemmas.Wholes.{whole_tree}
 use Rattle.bsp_tree.proofs.finishing.whole.Goals as goal
 
 pub returns : goal.returns

@@ -1,4 +1,4 @@
-use Rattle.bsp_tree.proofs.Wholes.{one_node_whole, one_node_tree}
+use Rattle.bsp_tree.proofs.lemmas.Wholes.{one_node_whole, one_node_tree}
 use Rattle.bsp_tree.proofs.half_spaces.half_of.Goals as goal
 
 pub of_parts-requires : goal.of_parts-requires

@@ -1,4 +1,4 @@
-use Rattle.bsp_tree.proofs.Halves.{behind_half, ahead_half, low_half, high_half}
+use Rattle.bsp_tree.proofs.lemmas.Halves.{behind_half, ahead_half, low_half, high_half}
 use Rattle.bsp_tree.proofs.laws.parts_are_of_halves.Goals as goal
 
 pub returns-clause-part_behind : goal.returns-clause-part_behind

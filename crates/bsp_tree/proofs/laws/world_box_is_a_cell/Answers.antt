@@ -1,4 +1,4 @@
-use Rattle.bsp_tree.proofs.Worlds.{open_world, closed_world}
+use Rattle.bsp_tree.proofs.lemmas.Worlds.{open_world, closed_world}
 use Rattle.bsp_tree.proofs.laws.world_box_is_a_cell.Goals as goal
 
 pub returns-clause-points : goal.returns-clause-points

@@ -4,8 +4,8 @@ use Rattle.link_forest.specs.declared.link.Link.{Link}
 use Rattle.plane_table.specs.Faces.{outline_of}
 use Rattle.bsp_tree.specs.Shapes.{tree_of_branch}
 use Rattle.bsp_tree.specs.Growths.{tree_on}
-use Rattle.bsp_tree.proofs.Growths.{leaf_grows}
-use Rattle.bsp_tree.proofs.Wholes.{leaf_tree, node_same}
+use Rattle.bsp_tree.proofs.lemmas.Growths.{leaf_grows}
+use Rattle.bsp_tree.proofs.lemmas.Wholes.{leaf_tree, node_same}
 use Rattle.bsp_tree.proofs.moved_nodes.+add_moved.Goals as goal
 
 pub returns-in-End : goal.returns-in-End

@@ -1,5 +1,5 @@
 use Rattle.std.proofs.Common.{arith}
-use Rattle.bsp_tree.proofs.Wholes.{end_size}
+use Rattle.bsp_tree.proofs.lemmas.Wholes.{end_size}
 use Rattle.bsp_tree.proofs.solid.+size_at.Goals as goal
 
 pub returns-in-End : goal.returns-in-End

@@ -1,5 +1,5 @@
 use Rattle.std.proofs.Common.{arith}
-use Rattle.bsp_tree.proofs.Wholes.{one_more}
+use Rattle.bsp_tree.proofs.lemmas.Wholes.{one_more}
 use Rattle.bsp_tree.proofs.solid.forest_copy.Goals as goal
 
 pub loop-index-preserved : goal.loop-index-preserved

@@ -1,4 +1,4 @@
-use Rattle.bsp_tree.proofs.Wholes.{end_walk}
+use Rattle.bsp_tree.proofs.lemmas.Wholes.{end_walk}
 use Rattle.bsp_tree.proofs.walking.+holds_at.Goals as goal
 
 pub plane_named-requires : goal.plane_named-requires

@@ -1,7 +1,7 @@
 use Rattle.std.proofs.Common.{ap, ◌∙◌}
 use Rattle.plane_predicate.specs.Space.{value}
 use Rattle.plane_predicate.specs.Sides.{is_side_behind}
-use Rattle.plane_polygon.proofs.CornerSides.{side_behind}
+use Rattle.plane_polygon.proofs.lemmas.CornerSides.{side_behind}
 use Rattle.bsp_tree.proofs.walking.lies_behind.Goals as goal
 
 pub returns : goal.returns

@@ -1,5 +1,5 @@
 use Rattle.bsp_tree.specs.Cells.{world_box}
-use Rattle.closed_surface.proofs.Closing.{facets_closed}
+use Rattle.closed_surface.proofs.lemmas.Closing.{facets_closed}
 use Rattle.closed_surface.proofs.facet_laws.facets_are_closed.Goals as goal
 
 pub returns : goal.returns

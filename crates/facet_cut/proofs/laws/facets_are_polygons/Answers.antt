@@ -1,4 +1,4 @@
-use Rattle.facet_cut.proofs.FacetPolygons.{all_facets, world_corners}
+use Rattle.facet_cut.proofs.lemmas.FacetPolygons.{all_facets, world_corners}
 use Rattle.facet_cut.proofs.laws.facets_are_polygons.Goals as goal
 
 pub returns-clause-facets : goal.returns-clause-facets

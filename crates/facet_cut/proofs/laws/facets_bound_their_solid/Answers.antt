@@ -1,4 +1,4 @@
-use Rattle.facet_cut.proofs.Boundaries.{facets_bound}
+use Rattle.facet_cut.proofs.lemmas.Boundaries.{facets_bound}
 use Rattle.facet_cut.proofs.laws.facets_bound_their_solid.Goals as goal
 
 pub returns : goal.returns

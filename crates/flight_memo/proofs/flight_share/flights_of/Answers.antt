@@ -18,7 +18,7 @@ loop-share-init g c = record {
   many = grind (arith, common_steps);
   room = grind (arith, common_steps);
   begun = grind (arith, common_steps);
-  ended = grind (arith, common_steps);
+  held = grind (arith, common_steps);
 }
 
 pub loop-share-preserved : goal.loop-share-preserved
@@ -30,5 +30,5 @@ loop-share-preserved g c =
       many = grind (arith, common_steps);
       room = grind (arith, common_steps);
       begun = grind (arith, common_steps);
-      ended = grind (arith, common_steps);
+      held = grind (arith, common_steps);
     }

@@ -12,5 +12,5 @@ invariant-loop-share g l = record {
   many : vec_len l.flights ≡ length l.yielded;
   room : length l.fn.shares.items ≤ vec_capacity l.flights;
   begun : (l.begun.parts + parts_each * length l.yielded ≡ parts_each * length l.fn.shares.items) × (l.begun.amount ≡ 0);
-  ended : (l.ended.parts + parts_each * length l.yielded ≡ parts_each * length l.fn.shares.items) × (l.ended.amount ≡ 0);
+  held : (l.held.parts + parts_each * length l.yielded ≡ parts_each * length l.fn.shares.items) × (l.held.amount ≡ 0);
 }

@@ -1,4 +1,4 @@
-use Rattle.bsp_tree.proofs.Wholes.{one_node_whole}
+use Rattle.bsp_tree.proofs.lemmas.Wholes.{one_node_whole}
 use Rattle.geometry_cases.proofs.solids.node.Goals as goal
 
 pub of_parts-requires : goal.of_parts-requires

@@ -3,15 +3,15 @@ use Rattle.link_forest.specs.declared.link.NodeId.{NodeId}
 use Rattle.link_forest.specs.declared.link.Link.TheVariants.{End, To}
 use Rattle.link_forest.specs.declared.forest.Entry.{Entry}
 use Rattle.link_forest.specs.Forests.{AddsNode}
-use Rattle.link_forest.proofs.Longer.{extends_itself}
-use Rattle.link_forest.proofs.Reaching.{reached_by_added}
+use Rattle.link_forest.proofs.lemmas.Longer.{extends_itself}
+use Rattle.link_forest.proofs.lemmas.Reaching.{reached_by_added}
 use Rattle.plane_polygon.specs.Polygons.{Outline}
 use Rattle.plane_table.specs.declared.faces.Face.{Face}
 use Rattle.plane_table.specs.declared.numbering.OwnFace.{OwnFace}
 use Rattle.plane_table.specs.Joins.{IsOwnFaceOf}
 use Rattle.bsp_tree.specs.Shapes.{IsWholeSolid}
-use Rattle.bsp_tree.proofs.SheetFaces.{faces_more}
-use Rattle.bsp_tree.proofs.Wholes.{one_node_whole}
+use Rattle.bsp_tree.proofs.lemmas.SheetFaces.{faces_more}
+use Rattle.bsp_tree.proofs.lemmas.Wholes.{one_node_whole}
 use Rattle.geometry_cases.proofs.solids.twice.Goals as goal
 
 two_nodes_whole : (s : Outline) (own : OwnFace) (none one two : List (Entry Face)) (copy : Face) (first second : NodeId) → IsOwnFaceOf s own → none ≡ [] → copy ≡ own.face →

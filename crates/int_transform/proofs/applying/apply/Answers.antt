@@ -1,7 +1,7 @@
 use Rattle.std.proofs.Common.{◌≡◌, ◌<◌, ℤ, List, [], Option, IfSome, OnSome, pos, arith, get_or, length, subst}
 use Rattle.plane_predicate.specs.Space.{point_at}
 use Rattle.int_transform.specs.Maps.{coordinate_list, determinant_of, image, map_of, KeepsSafeCoordinates}
-use Rattle.int_transform.proofs.Ranges.{all_next, images_next}
+use Rattle.int_transform.proofs.lemmas.Ranges.{all_next, images_next}
 use Rattle.int_transform.proofs.applying.apply.Goals as goal
 
 pub loop-point-preserved : goal.loop-point-preserved

@@ -3,8 +3,8 @@ use Rattle.plane_predicate.specs.Space.{point_at}
 use Rattle.std.proofs.lemmas.List.Elements.{All-nil}
 use Rattle.int_transform.specs.declared.affine.Affine.{Affine}
 use Rattle.int_transform.specs.Maps.{determinant_of, coordinate_list, HasSafeCoordinates}
-use Rattle.int_transform.proofs.Images.{image-identity}
-use Rattle.int_transform.proofs.Ranges.{image_next, leaves_next, regular_next, regular_steps, starts_in_range, stays_next}
+use Rattle.int_transform.proofs.lemmas.Images.{image-identity}
+use Rattle.int_transform.proofs.lemmas.Ranges.{image_next, leaves_next, regular_next, regular_steps, starts_in_range, stays_next}
 use Rattle.int_transform.proofs.applying.image_under.Goals as goal
 
 pub loop-step-init : goal.loop-step-init

@@ -1,5 +1,5 @@
 use Rattle.int_transform.specs.Maps.{map_of}
-use Rattle.int_transform.proofs.Images.{image-composition}
+use Rattle.int_transform.proofs.lemmas.Images.{image-composition}
 use Rattle.int_transform.proofs.laws.maps_are_done_in_order.Goals as goal
 
 pub returns-clause-both : goal.returns-clause-both

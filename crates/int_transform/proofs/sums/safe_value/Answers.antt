@@ -1,9 +1,9 @@
 use Rattle.std.proofs.Common.{rules, ◌≡◌, ◌≤◌, arith, get_or, pos, unsigned_abs, to_z-of_z, FitsSigned, w64}
 use mir.Syntax.{w128}
 use Rattle.plane_predicate.specs.Space.{point_at}
-use Rattle.plane_predicate.proofs.Sizes.{fits_by_size}
+use Rattle.plane_predicate.proofs.lemmas.Sizes.{fits_by_size}
 use Rattle.int_transform.specs.Maps.{row_at}
-use Rattle.int_transform.proofs.Ranges.{coordinate_sum}
+use Rattle.int_transform.proofs.lemmas.Ranges.{coordinate_sum}
 use Rattle.int_transform.proofs.sums.safe_value.Goals as goal
 
 pub returns-clause-some : goal.returns-clause-some

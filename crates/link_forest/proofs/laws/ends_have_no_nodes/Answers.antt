@@ -1,5 +1,5 @@
-use Rattle.link_forest.proofs.Longer.{tree_of_end}
-use Rattle.link_forest.proofs.Reaching.{ends_reach_none}
+use Rattle.link_forest.proofs.lemmas.Longer.{tree_of_end}
+use Rattle.link_forest.proofs.lemmas.Reaching.{ends_reach_none}
 use Rattle.link_forest.proofs.laws.ends_have_no_nodes.Goals as goal
 
 pub returns-clause-tree : goal.returns-clause-tree

@@ -1,4 +1,4 @@
-use Rattle.link_forest.proofs.Reaching.{reached_same, reached_by_node, reached_is_node, reached_by_added}
+use Rattle.link_forest.proofs.lemmas.Reaching.{reached_same, reached_by_node, reached_is_node, reached_by_added}
 use Rattle.link_forest.proofs.laws.links_reach_nodes.Goals as goal
 
 pub returns-clause-kept : goal.returns-clause-kept

@@ -1,4 +1,4 @@
-use Rattle.link_forest.proofs.Longer.{extended, extends_itself, extends_twice, taken_back, linked_before}
+use Rattle.link_forest.proofs.lemmas.Longer.{extended, extends_itself, extends_twice, taken_back, linked_before}
 use Rattle.link_forest.proofs.laws.longer_forests_keep_trees.Goals as goal
 
 pub returns-clause-append : goal.returns-clause-append

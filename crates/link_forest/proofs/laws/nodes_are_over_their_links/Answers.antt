@@ -1,4 +1,4 @@
-use Rattle.link_forest.proofs.Longer.{linked_none, added, is_node}
+use Rattle.link_forest.proofs.lemmas.Longer.{linked_none, added, is_node}
 use Rattle.link_forest.proofs.laws.nodes_are_over_their_links.Goals as goal
 
 pub returns-clause-none : goal.returns-clause-none

@@ -4,7 +4,7 @@ use Rattle.plane_predicate.specs.Space.{Coordinates}
 use Rattle.plane_predicate.specs.InUnits.{in_units}
 use Rattle.plane_polygon.specs.Polygons.{Outline, corner, AreReducedFrom}
 use Rattle.plane_predicate.specs.Indices.{indices_below}
-use Rattle.plane_polygon.proofs.CornerSides.{reduced_step}
+use Rattle.plane_polygon.proofs.lemmas.CornerSides.{reduced_step}
 use Rattle.off_text.proofs.corners.push_meetings.Goals as goal
 
 pub loop-i-init : goal.loop-i-init

@@ -1,4 +1,4 @@
-use Rattle.off_text.proofs.BesideFaces.{beside_leaves}
+use Rattle.off_text.proofs.lemmas.BesideFaces.{beside_leaves}
 use Rattle.off_text.proofs.laws.leaves_beside_face_planes.Goals as goal
 
 pub returns-clause-behind : goal.returns-clause-behind

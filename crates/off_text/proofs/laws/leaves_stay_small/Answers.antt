@@ -1,4 +1,4 @@
-use Rattle.off_text.proofs.Bounds.Sizes as bound
+use Rattle.off_text.proofs.lemmas.Bounds.Sizes as bound
 use Rattle.off_text.proofs.laws.leaves_stay_small.Goals as goal
 
 pub returns-clause-size : goal.returns-clause-size

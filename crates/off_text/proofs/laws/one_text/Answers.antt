@@ -1,4 +1,4 @@
-use Rattle.off_text.proofs.Unique as law
+use Rattle.off_text.proofs.lemmas.Unique as law
 use Rattle.off_text.proofs.laws.one_text.Goals as goal
 
 pub returns-clause-corners : goal.returns-clause-corners

@@ -1,5 +1,5 @@
-use Rattle.plane_predicate.proofs.Divisions.{factor_above}
-use Rattle.off_text.proofs.Factors.{factor_of}
+use Rattle.plane_predicate.proofs.lemmas.Divisions.{factor_above}
+use Rattle.off_text.proofs.lemmas.Factors.{factor_of}
 use Rattle.off_text.proofs.lowest.common_factor.Goals as goal
 
 pub returns-clause-factor : goal.returns-clause-factor

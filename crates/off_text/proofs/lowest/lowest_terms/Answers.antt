@@ -1,5 +1,5 @@
 use Rattle.std.proofs.Common.{rules, ◌≡◌, pos, sym, ap, ◌∙◌, to_z, to_z-of_z, FitsSigned}
-use Rattle.off_text.proofs.Factors.{whole_is_reduced}
+use Rattle.off_text.proofs.lemmas.Factors.{whole_is_reduced}
 use mir.Syntax.{w128}
 use Rattle.off_text.proofs.lowest.lowest_terms.Goals as goal
 

@@ -1,8 +1,8 @@
 use Rattle.std.proofs.Common.{◌≡◌, ◌/◌, ◌*ℤ◌, ◌-ℤ◌, ◌∙◌, sym, ap, ℕ, ℤ, pos, neg_ℤ, unsigned_abs, arith, rules, FitsSigned, to_z, of_z, to_z-of_z}
 use Rattle.std.proofs.lemmas.Int.{ints}
-use Rattle.plane_predicate.proofs.Divisions.{quotient, quotient_negative, quotient_below}
-use Rattle.plane_predicate.proofs.Opposites.{from_zero, size_of_negative}
-use Rattle.plane_predicate.proofs.Sizes.{fits_by_size}
+use Rattle.plane_predicate.proofs.lemmas.Divisions.{quotient, quotient_negative, quotient_below}
+use Rattle.plane_predicate.proofs.lemmas.Opposites.{from_zero, size_of_negative}
+use Rattle.plane_predicate.proofs.lemmas.Sizes.{fits_by_size}
 use mir.Syntax.{w128}
 use Rattle.off_text.proofs.lowest.quotient.Goals as goal
 

@@ -1,5 +1,5 @@
 use Rattle.std.proofs.Common.{List, ◌∷◌, ◌++◌, ap₂, ◌∙◌, flat_map, length, subst, codes}
-use Rattle.text_place.specs.Decimals.{numeral}
+use Rattle.plain_text.specs.Decimals.{numeral}
 use Rattle.plane_predicate.specs.Space.{Coordinates}
 use Rattle.plane_polygon.specs.Polygons.{Outline}
 use Rattle.off_text.specs.declared.parts.NamedPart.{NamedPart}

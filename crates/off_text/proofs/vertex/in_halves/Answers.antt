@@ -1,7 +1,7 @@
 use Rattle.std.proofs.Common.{rules, ◌≡◌, ◌&&◌, ◌*ℤ◌, true, false, pos, refl, sym, subst, ◌∙◌, FitsSigned, to_z-of_z}
 use mir.Syntax.{w128}
 use Rattle.plane_predicate.specs.Space.{Coordinates}
-use Rattle.plane_predicate.proofs.Sizes.{fits_by_size}
+use Rattle.plane_predicate.proofs.lemmas.Sizes.{fits_by_size}
 use Rattle.off_text.specs.Numbering.{is_even}
 use Rattle.off_text.proofs.Halves.{even_parts, halved_vertex, doubled_vertex, twice_size}
 use Rattle.off_text.proofs.vertex.in_halves.Goals as goal

@@ -2,7 +2,7 @@ use Rattle.std.proofs.Common.{rules, ◌≡◌, ◌≢◌, ◌↔◌, ℤ, pos, 
 use Rattle.plane_predicate.specs.Space.{Coefficients, Coordinates, value, IsPlane, IsInClosedWorld}
 use Rattle.plane_polygon.specs.Polygons.{Outline, Covers}
 use Rattle.plane_polygon.specs.Boxes.{box_outline, box_over_x, box_over_y, box_over_z}
-use Rattle.plane_polygon.proofs.BoxPoints.{box_is_x, box_is_y, box_is_z, box_polygon_is, if_ok}
+use Rattle.plane_polygon.proofs.lemmas.BoxPoints.{box_is_x, box_is_y, box_is_z, box_polygon_is, if_ok}
 use Rattle.plane_polygon.proofs.boxes.box_polygon.Goals as goal
 
 -- what the tests of machine numbers say

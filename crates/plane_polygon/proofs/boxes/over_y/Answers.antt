@@ -1,6 +1,6 @@
 use Rattle.std.proofs.Common.{rules, ◌≢◌, pos, w64, to_z-of_z, FitsSigned}
 use Rattle.plane_predicate.specs.Space.{Coefficients}
-use Rattle.plane_polygon.proofs.BoxPoints.{start_y}
+use Rattle.plane_polygon.proofs.lemmas.BoxPoints.{start_y}
 use Rattle.plane_polygon.proofs.boxes.over_y.Goals as goal
 
 pub four_edges-requires : goal.four_edges-requires

@@ -3,7 +3,7 @@ use Rattle.plane_predicate.specs.Space.{Coefficients, Coordinates, value}
 use Rattle.plane_polygon.specs.Polygons.{Outline, IsPolygon, Covers}
 use Rattle.plane_polygon.specs.Parts.{class_of, part_behind, part_ahead}
 use Rattle.plane_polygon.specs.declared.classes.Class.TheVariants.{Across}
-use Rattle.plane_polygon.proofs.Parts.{behind_polygon, ahead_polygon, behind_points, ahead_points}
+use Rattle.plane_polygon.proofs.lemmas.Parts.{behind_polygon, ahead_polygon, behind_points, ahead_points}
 use Rattle.plane_polygon.proofs.cutting.cut.Goals as goal
 
 pub invariant_of-result : goal.invariant_of-result

@@ -3,8 +3,8 @@ use Rattle.plane_predicate.specs.Space.{value, opposite_of}
 use Rattle.plane_predicate.specs.Sides.{side_of, is_side_behind, is_side_ahead}
 use Rattle.plane_polygon.specs.Polygons.{Outline, corner}
 use Rattle.plane_polygon.specs.Parts.{index_before}
-use Rattle.plane_polygon.proofs.CornerSides.{side_behind, side_ahead_opposite}
-use Rattle.plane_polygon.proofs.PartLists.{kept_step}
+use Rattle.plane_polygon.proofs.lemmas.CornerSides.{side_behind, side_ahead_opposite}
+use Rattle.plane_polygon.proofs.lemmas.PartLists.{kept_step}
 use Rattle.plane_polygon.proofs.cutting.part_edges.Goals as goal
 
 pub loop-i-preserved : goal.loop-i-preserved

@@ -1,4 +1,4 @@
-use Rattle.plane_polygon.proofs.BoxPoints.{box_polygon_is}
+use Rattle.plane_polygon.proofs.lemmas.BoxPoints.{box_polygon_is}
 use Rattle.plane_polygon.proofs.laws.box_polygons_are_polygons.Goals as goal
 
 pub returns : goal.returns

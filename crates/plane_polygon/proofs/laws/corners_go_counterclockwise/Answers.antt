@@ -1,4 +1,4 @@
-use Rattle.plane_polygon.proofs.Faces.{others_left}
+use Rattle.plane_polygon.proofs.lemmas.Faces.{others_left}
 use Rattle.plane_polygon.proofs.laws.corners_go_counterclockwise.Goals as goal
 
 pub returns : goal.returns

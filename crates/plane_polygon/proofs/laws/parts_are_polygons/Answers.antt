@@ -1,4 +1,4 @@
-use Rattle.plane_polygon.proofs.Parts.{behind_polygon, ahead_polygon, behind_points, ahead_points}
+use Rattle.plane_polygon.proofs.lemmas.Parts.{behind_polygon, ahead_polygon, behind_points, ahead_points}
 use Rattle.plane_polygon.proofs.laws.parts_are_polygons.Goals as goal
 
 pub returns : goal.returns

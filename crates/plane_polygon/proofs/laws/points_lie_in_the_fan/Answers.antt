@@ -1,4 +1,4 @@
-use Rattle.plane_polygon.proofs.Hull.{hull}
+use Rattle.plane_polygon.proofs.lemmas.Hull.{hull}
 use Rattle.plane_polygon.proofs.laws.points_lie_in_the_fan.Goals as goal
 
 pub returns : goal.returns

@@ -1,4 +1,4 @@
-use Rattle.plane_polygon.proofs.Faces.{within_by_turns, turns_by_within}
+use Rattle.plane_polygon.proofs.lemmas.Faces.{within_by_turns, turns_by_within}
 use Rattle.plane_polygon.proofs.laws.within_is_left.Goals as goal
 
 pub returns : goal.returns

@@ -1,5 +1,5 @@
 use Rattle.plane_polygon.specs.Polygons.{Outline, corner}
-use Rattle.plane_polygon.proofs.CornerSides.{reduced_step}
+use Rattle.plane_polygon.proofs.lemmas.CornerSides.{reduced_step}
 use Rattle.plane_polygon.proofs.listing.corners_of.Goals as goal
 
 pub loop-i-preserved : goal.loop-i-preserved

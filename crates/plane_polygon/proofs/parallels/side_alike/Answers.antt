@@ -1,5 +1,5 @@
 use Rattle.std.proofs.Common.{◌∙◌}
-use Rattle.plane_polygon.proofs.ParallelPlanes.{same_direction, same_points}
+use Rattle.plane_polygon.proofs.lemmas.ParallelPlanes.{same_direction, same_points}
 use Rattle.plane_polygon.proofs.parallels.side_alike.Goals as goal
 
 pub returns-clause-own : goal.returns-clause-own

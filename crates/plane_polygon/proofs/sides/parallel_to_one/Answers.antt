@@ -1,6 +1,6 @@
 use Rattle.plane_predicate.specs.Space.{meeting_by_cramers_rule}
-use Rattle.plane_predicate.proofs.Identities.{cramer_on_first, cramer_on_second, cramer_on_third}
-use Rattle.plane_polygon.proofs.ParallelPlanes.{all_on_at}
+use Rattle.plane_predicate.proofs.lemmas.Identities.{cramer_on_first, cramer_on_second, cramer_on_third}
+use Rattle.plane_polygon.proofs.lemmas.ParallelPlanes.{all_on_at}
 use Rattle.plane_polygon.proofs.sides.parallel_to_one.Goals as goal
 
 pub returns-in-Some : goal.returns-in-Some

@@ -3,7 +3,7 @@ use Rattle.plane_predicate.specs.Space.{value}
 use Rattle.plane_polygon.specs.Polygons.{Outline, corner}
 use Rattle.plane_predicate.specs.Sides.{is_side_behind, is_side_ahead}
 use Rattle.plane_polygon.specs.Parts.{is_behind, is_ahead}
-use Rattle.plane_polygon.proofs.CornerSides.{some_step, side_behind, side_ahead}
+use Rattle.plane_polygon.proofs.lemmas.CornerSides.{some_step, side_behind, side_ahead}
 use Rattle.plane_polygon.proofs.sorting.class_among.Goals as goal
 
 pub loop-i-preserved : goal.loop-i-preserved

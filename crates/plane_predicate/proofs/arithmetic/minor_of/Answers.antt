@@ -1,5 +1,5 @@
 use Rattle.std.proofs.Common.{◌*ℤ◌, ◌-ℤ◌, arith, w64, to_z-of_z, FitsSigned}
-use Rattle.plane_predicate.proofs.Sizes.{fits_by_size, size_product, size_minor}
+use Rattle.plane_predicate.proofs.lemmas.Sizes.{fits_by_size, size_product, size_minor}
 use Rattle.plane_predicate.proofs.arithmetic.minor_of.Goals as goal
 
 pub overflow_sub-result : goal.overflow_sub-result

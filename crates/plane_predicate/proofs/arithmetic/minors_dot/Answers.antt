@@ -1,6 +1,6 @@
 use Rattle.std.proofs.Common.{rules, ◌≡◌, ◌*◌, ◌<◌, ◌≤◌, ◌^◌, ℕ, unsigned_abs, arith, to_z-of_z, FitsSigned, subst, sym}
 use mir.Syntax.{w128}
-use Rattle.plane_predicate.proofs.Sizes.{three_products, same_products}
+use Rattle.plane_predicate.proofs.lemmas.Sizes.{three_products, same_products}
 use Rattle.plane_predicate.proofs.arithmetic.minors_dot.Goals as goal
 
 pub dot-requires : goal.dot-requires

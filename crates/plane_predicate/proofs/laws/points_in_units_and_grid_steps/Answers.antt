@@ -1,4 +1,4 @@
-use Rattle.plane_predicate.proofs.InUnits as law
+use Rattle.plane_predicate.proofs.lemmas.InUnits as law
 use Rattle.plane_predicate.proofs.laws.points_in_units_and_grid_steps.Goals as goal
 
 pub returns-clause-steps : goal.returns-clause-steps

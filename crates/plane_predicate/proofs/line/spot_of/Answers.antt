@@ -2,7 +2,7 @@ use Rattle.std.proofs.lemmas.Int.{ints}
 use Rattle.std.proofs.Common.{rules, w64, FitsSigned, neg_ℤ, arith, to_z-of_z, ◌∙◌, sym}
 use Rattle.plane_predicate.specs.Space.{Coordinates}
 use Rattle.plane_predicate.proofs.Meetings.{signed_negative}
-use Rattle.plane_predicate.proofs.Opposites.{negated, same_point}
+use Rattle.plane_predicate.proofs.lemmas.Opposites.{negated, same_point}
 use Rattle.plane_predicate.proofs.line.spot_of.Goals as goal
 
 pub returns-then-w-lt0 : goal.returns-then-w-lt0

@@ -1,7 +1,7 @@
 use Rattle.std.proofs.Common.{rules, arith, w64, to_z-of_z, FitsSigned, ◌∙◌}
 use Rattle.plane_predicate.specs.Space.{Coefficients}
 use Rattle.plane_predicate.proofs.Meetings.{cramer_x, cramer_y, cramer_z, cramer_w, sum_size}
-use Rattle.plane_predicate.proofs.Opposites.{same_point}
+use Rattle.plane_predicate.proofs.lemmas.Opposites.{same_point}
 use mir.Syntax.{w128}
 use Rattle.plane_predicate.proofs.meeting.cramer_of.Goals as goal
 

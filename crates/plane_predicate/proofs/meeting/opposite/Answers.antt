@@ -1,7 +1,7 @@
 use Rattle.std.proofs.Common.{neg_ℤ, arith, w64, subst, sym}
 use Rattle.plane_predicate.specs.Space.{Coefficients, IsPlane, HaveSamePoints}
-use Rattle.plane_predicate.proofs.SamePlanes.{opposite_points}
-use Rattle.plane_predicate.proofs.Opposites.{negated, same_plane, opposite_is_plane}
+use Rattle.plane_predicate.proofs.lemmas.SamePlanes.{opposite_points}
+use Rattle.plane_predicate.proofs.lemmas.Opposites.{negated, same_plane, opposite_is_plane}
 use Rattle.plane_predicate.proofs.meeting.opposite.Goals as goal
 
 pub invariant_of-result : goal.invariant_of-result

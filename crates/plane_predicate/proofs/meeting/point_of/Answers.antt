@@ -2,7 +2,7 @@ use Rattle.std.proofs.lemmas.Int.{ints}
 use Rattle.std.proofs.Common.{rules, FitsSigned, neg_ℤ, arith, to_z-of_z, ◌∙◌, sym}
 use Rattle.plane_predicate.specs.Space.{Coordinates}
 use Rattle.plane_predicate.proofs.Meetings.{signed_negative}
-use Rattle.plane_predicate.proofs.Opposites.{negated, same_point}
+use Rattle.plane_predicate.proofs.lemmas.Opposites.{negated, same_point}
 use mir.Syntax.{w128}
 use Rattle.plane_predicate.proofs.meeting.point_of.Goals as goal
 

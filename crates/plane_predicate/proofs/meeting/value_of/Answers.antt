@@ -1,5 +1,5 @@
 use Rattle.std.proofs.Common.{rules, arith, to_z-of_z, FitsSigned, ◌*◌, ap₂, ◌∙◌, ◌-ℤ◌, mul-le-mul}
-use Rattle.plane_predicate.proofs.Sizes.{three_products}
+use Rattle.plane_predicate.proofs.lemmas.Sizes.{three_products}
 use mir.Syntax.{w128}
 use Rattle.plane_predicate.proofs.meeting.value_of.Goals as goal
 

@@ -1,5 +1,5 @@
 use Rattle.std.proofs.Common.{rules, arith, w64, to_z-of_z, FitsSigned, mul-le-mul, ap₂, ◌∙◌, ◌-ℤ◌}
-use Rattle.plane_predicate.proofs.Sizes.{three_products}
+use Rattle.plane_predicate.proofs.lemmas.Sizes.{three_products}
 use Rattle.plane_predicate.proofs.place.place_on.Goals as goal
 
 pub dot-high-requires : goal.dot-high-requires

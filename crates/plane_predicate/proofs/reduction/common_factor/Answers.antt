@@ -1,4 +1,4 @@
-use Rattle.plane_predicate.proofs.Divisions.{common_of, factor_above}
+use Rattle.plane_predicate.proofs.lemmas.Divisions.{common_of, factor_above}
 use Rattle.plane_predicate.proofs.reduction.common_factor.Goals as goal
 
 pub returns-clause-factor : goal.returns-clause-factor

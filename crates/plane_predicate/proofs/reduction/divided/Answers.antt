@@ -1,6 +1,6 @@
 use Rattle.std.proofs.Common.{◌≡◌, ◌/◌, ◌*ℤ◌, pos, unsigned_abs, arith, to_z-of_z, to_z, of_z, ◌-ℤ◌, ◌∙◌, sym, ap, ℤ, ℕ}
 use Rattle.std.proofs.lemmas.Int.{ints}
-use Rattle.plane_predicate.proofs.Divisions.{quotient, quotient_negative, quotient_below, machine_positive, machine_negative}
+use Rattle.plane_predicate.proofs.lemmas.Divisions.{quotient, quotient_negative, quotient_below, machine_positive, machine_negative}
 use mir.Syntax.{w128}
 use Rattle.plane_predicate.proofs.reduction.divided.Goals as goal
 

@@ -1,5 +1,5 @@
 use Rattle.std.proofs.Common.{rules, ◌≡◌, ◌*ℤ◌, pos, unsigned_abs, ℕ, to_z-of_z, FitsSigned, subst}
-use Rattle.plane_predicate.proofs.Divisions.{quotients_of, same_factor}
+use Rattle.plane_predicate.proofs.lemmas.Divisions.{quotients_of, same_factor}
 use Prim.Native.Nat.{◌∣◌}
 use mir.Syntax.{w128}
 use Rattle.plane_predicate.proofs.reduction.quotients.Goals as goal

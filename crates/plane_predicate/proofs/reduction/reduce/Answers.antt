@@ -1,6 +1,6 @@
 use Rattle.std.proofs.Common.{rules, to_z-of_z, FitsSigned}
 use Rattle.plane_predicate.specs.Space.{Coordinates, AreQuotients}
-use Rattle.plane_predicate.proofs.Divisions.{reduced_is_point, reduced_is_same}
+use Rattle.plane_predicate.proofs.lemmas.Divisions.{reduced_is_point, reduced_is_same}
 use mir.Syntax.{w128}
 use Rattle.plane_predicate.proofs.reduction.reduce.Goals as goal
 

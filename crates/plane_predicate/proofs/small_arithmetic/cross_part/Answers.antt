@@ -1,5 +1,5 @@
 use Rattle.std.proofs.Common.{rules, arith, w64, to_z-of_z, FitsSigned}
-use Rattle.plane_predicate.proofs.Sizes.{two_products}
+use Rattle.plane_predicate.proofs.lemmas.Sizes.{two_products}
 use Rattle.plane_predicate.proofs.small_arithmetic.cross_part.Goals as goal
 
 pub minus-requires : goal.minus-requires

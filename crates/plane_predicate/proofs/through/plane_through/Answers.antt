@@ -1,6 +1,6 @@
 use Rattle.std.proofs.Common.{rules, ◌≡◌, pos, IfSome, get_or, to_z-of_z, FitsSigned, w64}
 use Rattle.plane_predicate.specs.Space.{point_at, plane_of_points, value, IsPlaneTimes}
-use Rattle.plane_predicate.proofs.ThroughPoints.{through_on, if_some, none_collinear}
+use Rattle.plane_predicate.proofs.lemmas.ThroughPoints.{through_on, if_some, none_collinear}
 use Rattle.plane_predicate.proofs.through.plane_through.Goals as goal
 
 pub returns-clause-on : goal.returns-clause-on

@@ -1,7 +1,7 @@
 use Rattle.std.proofs.Common.{rules, ◌≡◌, arith, w64, to_z-of_z, FitsSigned}
 use Rattle.plane_predicate.specs.Space.{Coefficients, AreQuotients}
-use Rattle.plane_predicate.proofs.Sizes.{fits_by_size}
-use Rattle.plane_predicate.proofs.ThroughPoints.{same_quotients, reduced_is_plane, reduced_is_times}
+use Rattle.plane_predicate.proofs.lemmas.Sizes.{fits_by_size}
+use Rattle.plane_predicate.proofs.lemmas.ThroughPoints.{same_quotients, reduced_is_plane, reduced_is_times}
 use mir.Syntax.{w128}
 use Rattle.plane_predicate.proofs.through.reduced_plane.Goals as goal
 

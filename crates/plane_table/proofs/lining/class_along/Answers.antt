@@ -7,7 +7,7 @@ use Rattle.plane_polygon.specs.Polygons.{Outline, corner}
 use Rattle.plane_polygon.specs.Parts.{some_of, is_behind, is_ahead}
 use Rattle.plane_table.specs.Tables.{plane_named}
 use Rattle.plane_table.specs.Faces.{outline_of}
-use Rattle.plane_table.proofs.Corners.{after_last, after_next, some_step, class_end, side_ahead, side_behind}
+use Rattle.plane_table.proofs.lemmas.Corners.{after_last, after_next, some_step, class_end, side_ahead, side_behind}
 use Rattle.plane_table.proofs.Lines.{side_along}
 use Rattle.plane_table.proofs.lining.class_along.Goals as goal
 use Rattle.plane_predicate.specs.Indices.{indices_below}

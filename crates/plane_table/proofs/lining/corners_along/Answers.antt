@@ -6,7 +6,7 @@ use Rattle.plane_polygon.specs.Polygons.{Outline, corner}
 use Rattle.plane_predicate.specs.Indices.{indices_below}
 use Rattle.plane_table.specs.Tables.{plane_named}
 use Rattle.plane_table.specs.Faces.{outline_of, side_against}
-use Rattle.plane_table.proofs.Corners.{after_last, after_next, map_step, side_pair, sides_end}
+use Rattle.plane_table.proofs.lemmas.Corners.{after_last, after_next, map_step, side_pair, sides_end}
 use Rattle.plane_table.proofs.Lines.{side_along}
 use Rattle.plane_table.proofs.lining.corners_along.Goals as goal
 

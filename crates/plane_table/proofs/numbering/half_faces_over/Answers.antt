@@ -14,7 +14,7 @@ loop-plane-preserved c =
     let before = c.loop-plane.invariant in
     let own = c.in_ok-own.ensures.face in
     let next = take_more from i plane c.loop-plane-test.true ∙ ap (λ (m : Coefficients). take i from ++ m ∷ []) (sym c.plane-item.is) in
-    let whole : IsPlane plane = subst IsPlane c.plane.view_is c.plane.invariant in
+    let whole : IsPlane plane = c.planes_keep_their_form.ensures in
     let grown = faces_more c.loop-plane.planes.items c.in_ok-own.own.planes.items c.loop-plane.faces.items c.push.new.self.items c.in_ok-own.own.face (box_outline plane) (map box_outline (take i from))
     c.in_ok-own.ensures.keeps c.in_ok-push.ensures.items before.faces before.outlines own.face (own.outline ∙ c.in_ok-box_polygon.ensures.outline) in
     record {

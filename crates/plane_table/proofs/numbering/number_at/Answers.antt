@@ -1,6 +1,6 @@
 use Rattle.std.proofs.Common.{◌≡◌, ◌*◌, ◌+◌, ◌/◌, sym, ◌∙◌, arith}
 use Rattle.plane_table.proofs.Numbers.{at_even, at_odd, turned_back}
-use Rattle.plane_table.proofs.Planes.{same_equal}
+use Rattle.plane_table.proofs.lemmas.Planes.{same_equal}
 use Rattle.plane_table.proofs.numbering.number_at.Goals as goal
 
 pub returns-then-eq-clause-some : goal.returns-then-eq-clause-some

@@ -1,7 +1,7 @@
 use Rattle.std.proofs.lemmas.Result.{IfOk-weaker}
 use Rattle.plane_table.specs.Tables.{HasNoTwoAlike}
 use Rattle.plane_table.specs.Orders.{IsAscending}
-use Rattle.plane_table.proofs.Orders.{ascending_apart}
+use Rattle.plane_table.proofs.lemmas.Orders.{ascending_apart}
 use Rattle.plane_table.proofs.ordering.in_order.Goals as goal
 
 pub returns-clause-apart : goal.returns-clause-apart

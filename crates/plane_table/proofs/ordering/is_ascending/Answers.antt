@@ -1,5 +1,5 @@
 use Rattle.std.proofs.Common.{ap, ◌∙◌, arith, sym, true≢false, is_lt, rules}
-use Rattle.plane_table.proofs.Orders.{ascending_apart, order_more, order_fails}
+use Rattle.plane_table.proofs.lemmas.Orders.{ascending_apart, order_more, order_fails}
 use Rattle.plane_table.proofs.ordering.is_ascending.Goals as goal
 
 pub returns-then-not-is_lt-clause-ascending : goal.returns-then-not-is_lt-clause-ascending

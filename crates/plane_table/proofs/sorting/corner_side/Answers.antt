@@ -3,7 +3,7 @@ use Rattle.plane_predicate.specs.declared.sides.Side.{Side}
 use Rattle.plane_polygon.specs.Polygons.{corner}
 use Rattle.plane_table.specs.Tables.{plane_named}
 use Rattle.plane_table.specs.Faces.{outline_of, IsSideAt}
-use Rattle.plane_table.proofs.Corners.{side_pair}
+use Rattle.plane_table.proofs.lemmas.Corners.{side_pair}
 use Rattle.plane_table.proofs.sorting.corner_side.Goals as goal
 use Rattle.plane_table.proofs.sorting.corner_side.Goals.{in-Some, in-None}
 

@@ -3,7 +3,7 @@ use Rattle.plane_predicate.specs.Space.{Coordinates, meeting_by_cramers_rule, va
 use Rattle.plane_predicate.specs.Sides.{side_of}
 use Rattle.plane_predicate.specs.Indices.{index_after}
 use Rattle.plane_table.specs.Tables.{plane_named}
-use Rattle.plane_table.proofs.Corners.{after_in, corner_is}
+use Rattle.plane_table.proofs.lemmas.Corners.{after_in, corner_is}
 use Rattle.plane_table.proofs.sorting.meeting_side.Goals as goal
 
 pub returns : goal.returns

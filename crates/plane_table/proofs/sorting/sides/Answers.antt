@@ -5,7 +5,7 @@ use Rattle.plane_polygon.specs.Parallels.{HasAllOn}
 use Rattle.plane_table.specs.declared.sorting.CornerSide.{CornerSide}
 use Rattle.plane_table.specs.Tables.{plane_named}
 use Rattle.plane_table.specs.Faces.{outline_of, side_against}
-use Rattle.plane_table.proofs.Corners.{after_next, some_step, map_step, class_end, sides_end, known_at}
+use Rattle.plane_table.proofs.lemmas.Corners.{after_next, some_step, map_step, class_end, sides_end, known_at}
 use Rattle.plane_table.proofs.sorting.sides.Goals as goal
 
 pub corner_side-side-requires-clause-known : goal.corner_side-side-requires-clause-known

@@ -3,7 +3,7 @@ use Rattle.std.proofs.lemmas.Result.{IfOk-weaker}
 use Rattle.plane_polygon.specs.Polygons.{Outline}
 use Rattle.plane_table.specs.Tables.{plane_named}
 use Rattle.plane_table.specs.Faces.{outline_of, AreFourSides, AreSidesOf, AreSidesWhereAcross}
-use Rattle.plane_table.proofs.Corners.{all_listed, all_of_class, one_side, begins_at, ends_at, four_end}
+use Rattle.plane_table.proofs.lemmas.Corners.{all_listed, all_of_class, one_side, begins_at, ends_at, four_end}
 use Rattle.plane_table.proofs.sorting.sides_where_across.Goals as goal
 use Rattle.plane_predicate.specs.Indices.{index_after}
 

@@ -1,6 +1,6 @@
 use Rattle.std.proofs.Common.{ℕ, pos, ◌≤ℤ◌, arith}
 use Rattle.primitives.specs.Shapes.{value_at_point}
-use Rattle.primitives.proofs.Lists.{all_done, all_next}
+use Rattle.primitives.proofs.lemmas.Lists.{all_done, all_next}
 use Rattle.primitives.proofs.ahead.face_has_ahead.Goals as goal
 
 pub loop-i-preserved : goal.loop-i-preserved

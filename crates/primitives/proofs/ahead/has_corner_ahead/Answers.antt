@@ -1,6 +1,6 @@
 use Rattle.std.proofs.Common.{ℕ, List, pos, ◌≤ℤ◌, arith, ◌∙◌, subst, All}
 use Rattle.primitives.specs.Shapes.{value_at_point}
-use Rattle.primitives.proofs.Lists.{all_done, all_next}
+use Rattle.primitives.proofs.lemmas.Lists.{all_done, all_next}
 use Rattle.primitives.proofs.ahead.has_corner_ahead.Goals as goal
 
 pub loop-face-preserved : goal.loop-face-preserved

@@ -1,6 +1,6 @@
 use Rattle.std.proofs.Common.{List, ℤ, [], pos, ◌≤ℤ◌, arith}
 use Rattle.plane_predicate.specs.Space.{point_at, value}
-use Rattle.primitives.proofs.Lists.{all_done, all_next}
+use Rattle.primitives.proofs.lemmas.Lists.{all_done, all_next}
 use Rattle.primitives.proofs.ahead.has_point_ahead.Goals as goal
 
 pub loop-point-preserved : goal.loop-point-preserved

@@ -1,7 +1,7 @@
 use Rattle.std.proofs.Common.{ℕ, pos, ◌≤ℤ◌, arith}
 use Rattle.plane_predicate.specs.Space.{point_at, inner_product, plane_of_points}
 use Rattle.primitives.specs.Shapes.{mesh_point}
-use Rattle.primitives.proofs.Lists.{all_done, all_next}
+use Rattle.primitives.proofs.lemmas.Lists.{all_done, all_next}
 use Rattle.primitives.proofs.Searches.{above_most}
 use Rattle.primitives.proofs.bounding.has_none_left.Goals as goal
 

@@ -2,7 +2,7 @@ use Rattle.std.proofs.Common.{subst}
 use Rattle.plane_predicate.specs.Space.{Coefficients}
 use Rattle.primitives.specs.Shapes.{Mesh}
 use Rattle.primitives.specs.Bounding.{IsOuterPlane}
-use Rattle.primitives.proofs.OuterPlanes.{bounded_spanned, bounded_opposite, one_plane, opposite_twice}
+use Rattle.primitives.proofs.lemmas.OuterPlanes.{bounded_spanned, bounded_opposite, one_plane, opposite_twice}
 use Rattle.primitives.proofs.Searches.{on_true, on_false}
 use Rattle.primitives.proofs.bounding.is_bounded_by.Goals as goal
 

@@ -1,5 +1,5 @@
 use Rattle.std.proofs.Common.{arith}
-use Rattle.primitives.proofs.Lists.{all_done, all_next}
+use Rattle.primitives.proofs.lemmas.Lists.{all_done, all_next}
 use Rattle.primitives.specs.DirectedEdges.{missing_edge, HasNoneLeft}
 use Rattle.primitives.proofs.bounding.is_clockwise.Goals as goal
 

@@ -3,7 +3,7 @@ use Rattle.std.specs.BTreeSet.{contains}
 use Rattle.primitives.specs.contracts.ways.DirectedEdgeOrd.TheImpl.{cmp-value}
 use Rattle.primitives.specs.declared.ways.DirectedEdge.{DirectedEdge}
 use Rattle.primitives.specs.DirectedEdges.{missing_edge, reversed_edge}
-use Rattle.primitives.proofs.Lists.{all_done, all_next}
+use Rattle.primitives.proofs.lemmas.Lists.{all_done, all_next}
 use Rattle.primitives.proofs.closed.are_met_back.Goals as goal
 
 pub loop-way-preserved : goal.loop-way-preserved

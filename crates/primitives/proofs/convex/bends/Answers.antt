@@ -1,5 +1,5 @@
 use Rattle.std.proofs.Common.{rules, ◌≡◌, arith, List, [], ℤ, pos, sym, ◌∙◌, ap, to_z, to_z-of_z, FitsSigned, w64}
-use Rattle.primitives.proofs.Lists.{all_done, all_next}
+use Rattle.primitives.proofs.lemmas.Lists.{all_done, all_next}
 use Rattle.primitives.specs.Polygons.{orientation}
 use Rattle.primitives.proofs.convex.bends.Goals as goal
 

@@ -1,6 +1,6 @@
 use Rattle.std.proofs.Common.{◌≡◌, arith, List, [], ℤ, pos, All}
 use Rattle.std.proofs.lemmas.List.{get_or_default}
-use Rattle.primitives.proofs.Lists.{all_done, all_next}
+use Rattle.primitives.proofs.lemmas.Lists.{all_done, all_next}
 use Rattle.primitives.specs.Polygons.{polygon_point, orientation}
 use Rattle.primitives.proofs.convex.has_corner.Goals as goal
 

@@ -1,4 +1,4 @@
-use Rattle.primitives.proofs.CornersBehind.{map_true, map_false, corner_found, no_corner, convex_left, convex_right, not_convex}
+use Rattle.primitives.proofs.lemmas.CornersBehind.{map_true, map_false, corner_found, no_corner, convex_left, convex_right, not_convex}
 use Rattle.primitives.proofs.convex.is_convex.Goals as goal
 
 pub returns-then-goes_left-clause-yes : goal.returns-then-goes_left-clause-yes

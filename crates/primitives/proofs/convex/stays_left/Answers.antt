@@ -1,6 +1,6 @@
 use Rattle.std.proofs.Common.{rules, ◌≤ℤ◌, arith, List, [], ℤ, pos, subst, to_z-of_z, FitsSigned, w64}
 use Rattle.std.proofs.lemmas.Int.{ints}
-use Rattle.primitives.proofs.Lists.{all_done, all_next}
+use Rattle.primitives.proofs.lemmas.Lists.{all_done, all_next}
 use Rattle.primitives.specs.Polygons.{orientation}
 use Rattle.primitives.proofs.convex.stays_left.Goals as goal
 

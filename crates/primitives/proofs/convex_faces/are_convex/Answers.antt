@@ -1,7 +1,7 @@
 use Rattle.std.proofs.Common.{◌∙◌, Bool, subst, arith}
 use Rattle.std.specs.Bool.{OnTrue}
 use Rattle.primitives.specs.Shapes.{Mesh}
-use Rattle.primitives.proofs.Lists.{all_done, all_next}
+use Rattle.primitives.proofs.lemmas.Lists.{all_done, all_next}
 use Rattle.primitives.specs.Bounding.{IsFaceOfBody}
 use Rattle.primitives.proofs.convex_faces.are_convex.Goals as goal
 

@@ -1,5 +1,5 @@
 use Rattle.std.proofs.Common.{ℕ, ◌<◌, List, All, ◌∙◌, arith, subst}
-use Rattle.primitives.proofs.Lists.{all_done, all_next}
+use Rattle.primitives.proofs.lemmas.Lists.{all_done, all_next}
 use Rattle.primitives.proofs.counts.are_there.Goals as goal
 
 pub loop-face-preserved : goal.loop-face-preserved

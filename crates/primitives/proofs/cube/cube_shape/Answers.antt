@@ -1,7 +1,7 @@
 use Rattle.std.proofs.Common.{rules, ◌≡◌, ◌∙◌, sym, subst, refl, arith, get_or, pos, to_z-of_z, FitsSigned, w64}
 use Rattle.primitives.specs.Shapes.{IsShape}
 use Rattle.primitives.specs.Boxes.{box_faces, box_points, cube_of}
-use Rattle.primitives.proofs.BoxBodies.{cube_is_shape, same_points}
+use Rattle.primitives.proofs.lemmas.BoxBodies.{cube_is_shape, same_points}
 use Rattle.primitives.proofs.cube.cube_shape.Goals as goal
 
 pub of-requires : goal.of-requires

@@ -1,5 +1,5 @@
 use Rattle.std.proofs.Common.{◌+◌, ◌++◌, List, ℕ, [], ◌∷◌, sym, ap, ◌∙◌}
-use Rattle.primitives.proofs.PrismLists.{range_next}
+use Rattle.primitives.proofs.lemmas.PrismLists.{range_next}
 use Rattle.primitives.proofs.extrusion.end_of.Goals as goal
 
 pub loop-i-preserved : goal.loop-i-preserved

@@ -2,8 +2,8 @@ use Rattle.std.proofs.Common.{◌≡◌, ◌∙◌, sym, ap, ap₂, subst, refl,
 use Rattle.primitives.specs.Shapes.{IsShape}
 use Rattle.primitives.specs.Sizes.{low_end, high_end, AreSizes}
 use Rattle.primitives.specs.Prisms.{extrusion_of, prism_faces, prism_points}
-use Rattle.primitives.proofs.EndFaces.{ends_of_side}
-use Rattle.primitives.proofs.PrismBodies.{prism_is_shape}
+use Rattle.primitives.proofs.lemmas.EndFaces.{ends_of_side}
+use Rattle.primitives.proofs.lemmas.PrismBodies.{prism_is_shape}
 use Rattle.primitives.proofs.extrusion.extrude.Goals as goal
 
 pub of-requires : goal.of-requires

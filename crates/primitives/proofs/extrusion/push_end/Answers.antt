@@ -1,7 +1,7 @@
 use Rattle.std.proofs.Common.{rules, ◌≡◌, ℕ, ◌++◌, List, ℤ, pos, [], get_or, length, take, map, ap, ◌∙◌, arith, to_z-of_z, FitsSigned, w64}
 use Rattle.std.proofs.Math.Seq.{take-length}
 use Rattle.primitives.specs.Prisms.{at_height}
-use Rattle.primitives.proofs.PrismLists.{end_next}
+use Rattle.primitives.proofs.lemmas.PrismLists.{end_next}
 use Rattle.primitives.proofs.extrusion.push_end.Goals as goal
 
 pub loop-point-preserved : goal.loop-point-preserved

@@ -1,5 +1,5 @@
 use Rattle.std.proofs.Common.{sym, ap, ◌∙◌}
-use Rattle.primitives.proofs.PrismLists.{side_added, side_skipped}
+use Rattle.primitives.proofs.lemmas.PrismLists.{side_added, side_skipped}
 use Rattle.primitives.proofs.extrusion.sides_of.Goals as goal
 use Rattle.primitives.proofs.extrusion.sides_of.Goals.{then-not-is_same_point+in_ok-side_of+in_ok-push, else-not-is_same_point}
 

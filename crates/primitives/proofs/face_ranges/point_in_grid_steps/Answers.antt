@@ -1,6 +1,6 @@
 use Rattle.std.proofs.Common.{◌≤◌, ◌*ℤ◌, unsigned_abs, List, [], ◌∷◌, ap, subst, sym, arith, w64, to_z-of_z, FitsSigned, ℤ}
 use Rattle.plane_predicate.specs.Space.{point_at}
-use Rattle.plane_predicate.proofs.Sizes.{fits_by_size, size_product}
+use Rattle.plane_predicate.proofs.lemmas.Sizes.{fits_by_size, size_product}
 use Rattle.primitives.proofs.Steps.{steps_size}
 use Rattle.primitives.proofs.face_ranges.point_in_grid_steps.Goals as goal
 

@@ -1,5 +1,5 @@
 use Rattle.std.proofs.Common.{rules, ◌∙◌, ◌-ℤ◌, arith, w64, to_z-of_z, FitsSigned}
-use Rattle.plane_predicate.proofs.Sizes.{fits_by_size, size_difference}
+use Rattle.plane_predicate.proofs.lemmas.Sizes.{fits_by_size, size_difference}
 use Rattle.primitives.proofs.facing.minor_between.Goals as goal
 
 pub returns-clause-value : goal.returns-clause-value

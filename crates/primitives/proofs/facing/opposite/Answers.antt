@@ -1,5 +1,5 @@
 use Rattle.std.proofs.Common.{neg_ℤ, arith, w64}
-use Rattle.plane_predicate.proofs.Opposites.{negated, same_plane}
+use Rattle.plane_predicate.proofs.lemmas.Opposites.{negated, same_plane}
 use Rattle.primitives.proofs.facing.opposite.Goals as goal
 
 pub returns : goal.returns

@@ -1,7 +1,7 @@
 use Rattle.std.proofs.Common.{rules, ◌≡◌, ◌∙◌, ◌+ℤ◌, ◌*ℤ◌, ap, ap₂, arith, w64, to_z-of_z, FitsSigned, ℤ}
 use Rattle.plane_predicate.specs.Space.{point_at, plane_of_points}
-use Rattle.plane_predicate.proofs.Opposites.{same_plane}
-use Rattle.plane_predicate.proofs.Sizes.{fits_by_size}
+use Rattle.plane_predicate.proofs.lemmas.Opposites.{same_plane}
+use Rattle.plane_predicate.proofs.lemmas.Sizes.{fits_by_size}
 use Rattle.primitives.proofs.facing.plane_through.Goals as goal
 
 pub returns : goal.returns

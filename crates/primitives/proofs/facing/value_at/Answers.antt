@@ -1,7 +1,7 @@
 use Rattle.std.proofs.Common.{rules, ◌-ℤ◌, ◌∙◌, ap₂, sym, pos, arith, w64, to_z-of_z, FitsSigned}
 use Rattle.plane_predicate.specs.Space.{point_at}
-use Rattle.plane_predicate.proofs.IntegerRing.{mul_comm_ℤ, one_mul}
-use Rattle.plane_predicate.proofs.Sizes.{fits_by_size, size_difference}
+use Rattle.plane_predicate.proofs.lemmas.IntegerRing.{mul_comm_ℤ, one_mul}
+use Rattle.plane_predicate.proofs.lemmas.Sizes.{fits_by_size, size_difference}
 use Rattle.primitives.proofs.facing.value_at.Goals as goal
 
 pub overflow_sub-result : goal.overflow_sub-result

@@ -1,5 +1,5 @@
 use Rattle.std.proofs.Common.{◌≡◌, rules, ◌+ℤ◌, ◌*ℤ◌, ap₂, arith, to_z-of_z, FitsSigned}
-use Rattle.plane_predicate.proofs.Sizes.{fits_by_size, size_sum}
+use Rattle.plane_predicate.proofs.lemmas.Sizes.{fits_by_size, size_sum}
 use mir.Syntax.{w128}
 use Rattle.primitives.proofs.facing_out.directions_dot.Goals as goal
 

@@ -1,5 +1,5 @@
 use Rattle.std.proofs.Common.{◌∙◌, subst, arith}
-use Rattle.primitives.proofs.Lists.{all_done, all_next}
+use Rattle.primitives.proofs.lemmas.Lists.{all_done, all_next}
 use Rattle.primitives.specs.Checks.{IsFlatFace}
 use Rattle.primitives.proofs.flat_faces.are_flat.Goals as goal
 

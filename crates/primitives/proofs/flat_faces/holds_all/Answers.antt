@@ -1,6 +1,6 @@
 use Rattle.std.proofs.Common.{◌≡◌, ℕ, pos, arith}
 use Rattle.primitives.specs.Shapes.{value_at_point}
-use Rattle.primitives.proofs.Lists.{all_done, all_next}
+use Rattle.primitives.proofs.lemmas.Lists.{all_done, all_next}
 use Rattle.primitives.proofs.flat_faces.holds_all.Goals as goal
 
 pub loop-i-preserved : goal.loop-i-preserved

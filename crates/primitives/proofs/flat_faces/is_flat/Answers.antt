@@ -1,4 +1,4 @@
-use Rattle.primitives.proofs.ThroughCorners.{flat_by, flat_on}
+use Rattle.primitives.proofs.lemmas.ThroughCorners.{flat_by, flat_on}
 use Rattle.primitives.proofs.Searches.{on_true, on_false}
 use Rattle.primitives.proofs.flat_faces.is_flat.Goals as goal
 

@@ -1,5 +1,5 @@
 use Rattle.primitives.specs.Sizes.{high_end, low_end}
-use Rattle.primitives.proofs.PrismPlanes.{prism_behind}
+use Rattle.primitives.proofs.lemmas.PrismPlanes.{prism_behind}
 use Rattle.primitives.proofs.laws.corners_of_extrusions_are_behind_or_on_planes.Goals as goal
 
 pub returns : goal.returns

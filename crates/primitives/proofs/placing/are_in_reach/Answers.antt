@@ -1,6 +1,6 @@
 use Rattle.std.proofs.Common.{ℤ, List, [], arith}
 use Rattle.plane_predicate.specs.Space.{point_at, IsInReach}
-use Rattle.primitives.proofs.Lists.{all_done, all_next}
+use Rattle.primitives.proofs.lemmas.Lists.{all_done, all_next}
 use Rattle.primitives.proofs.placing.are_in_reach.Goals as goal
 
 pub loop-point-preserved : goal.loop-point-preserved

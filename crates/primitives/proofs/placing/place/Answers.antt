@@ -3,7 +3,7 @@ use Rattle.std.proofs.lemmas.Result.{err_from_is_err_and}
 use Rattle.plane_predicate.specs.Space.{point_at, IsInReach}
 use Rattle.int_transform.specs.Maps.{determinant_of, map_of, LeavesSafeCoordinates, KeepsSafeCoordinates}
 use Rattle.primitives.specs.Placing.{moved_mesh}
-use Rattle.primitives.proofs.Transforms.{faces_after, some_points, images_in_reach, image_past_reach, inside-placed, placed_faces, reach_placed, some_placed, IsPlaced}
+use Rattle.primitives.proofs.lemmas.Transforms.{faces_after, some_points, images_in_reach, image_past_reach, inside-placed, placed_faces, reach_placed, some_placed, IsPlaced}
 use Rattle.primitives.proofs.Stops.{placing_stop}
 use Rattle.primitives.proofs.placing.place.Goals as goal
 

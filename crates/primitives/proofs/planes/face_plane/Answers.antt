@@ -1,8 +1,8 @@
 use Rattle.std.proofs.Common.{ℕ, List, All, Any, pos, ◌<ℤ◌, ◌≤ℤ◌, sym, subst}
 use Rattle.plane_predicate.specs.Space.{Coefficients}
 use Rattle.primitives.specs.Shapes.{Mesh, value_at_point, IsPlaneOfFace}
-use Rattle.primitives.proofs.ShapeBodies.{reach_on_grid}
-use Rattle.primitives.proofs.FacePlanes.{found, spanned_as_it_is, spanned_opposite}
+use Rattle.primitives.proofs.lemmas.ShapeBodies.{reach_on_grid}
+use Rattle.primitives.proofs.lemmas.FacePlanes.{found, spanned_as_it_is, spanned_opposite}
 use Rattle.primitives.proofs.planes.face_plane.Goals as goal
 
 pub has_ahead-requires-clause-grid : goal.has_ahead-requires-clause-grid

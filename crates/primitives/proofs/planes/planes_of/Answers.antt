@@ -1,7 +1,7 @@
 use Rattle.std.proofs.Common.{◌≡◌, true, false, List, ℕ, sym, ◌∙◌, ap, subst, arith}
 use Rattle.primitives.specs.Shapes.{Mesh, IsPlaneOfFace}
 use Rattle.primitives.specs.Placing.{ArePlanesOf}
-use Rattle.primitives.proofs.Distinct.{among}
+use Rattle.primitives.proofs.lemmas.Distinct.{among}
 use Rattle.primitives.proofs.Placed.{plane_added, plane_kept}
 use Rattle.primitives.proofs.planes.planes_of.Goals as goal
 use Rattle.primitives.proofs.planes.planes_of.Goals.{then-not-holds+in_ok-push, else-not-holds}

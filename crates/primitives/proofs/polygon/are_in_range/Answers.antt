@@ -1,5 +1,5 @@
 use Rattle.std.proofs.Common.{arith, []}
-use Rattle.primitives.proofs.Lists.{all_done, all_next}
+use Rattle.primitives.proofs.lemmas.Lists.{all_done, all_next}
 use Rattle.primitives.specs.Polygons.{IsFlatPointInRange}
 use Rattle.primitives.proofs.polygon.are_in_range.Goals as goal
 

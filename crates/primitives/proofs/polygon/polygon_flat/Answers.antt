@@ -1,6 +1,6 @@
 use Rattle.std.proofs.Common.{◌≡◌, ◌∙◌, sym, subst, arith, All}
 use Rattle.primitives.specs.Polygons.{polygon_of, IsConvexPolygon, IsFlatShape, IsFlatPointWithinGridLimits}
-use Rattle.primitives.proofs.Grids.{near_grid, polygon_is_flat}
+use Rattle.primitives.proofs.lemmas.Grids.{near_grid, polygon_is_flat}
 use Rattle.primitives.proofs.polygon.polygon_flat.Goals as goal
 
 pub is_convex-requires-clause-near : goal.is_convex-requires-clause-near

@@ -3,7 +3,7 @@ use Rattle.std.specs.Bool.{OnTrue, OnFalse}
 use Rattle.primitives.specs.Shapes.{Mesh}
 use Rattle.primitives.specs.Bounding.{IsFaceOfBody}
 use Rattle.primitives.specs.Checks.{IsClosedMesh, IsConvexMesh}
-use Rattle.primitives.proofs.Solids.{convex_by}
+use Rattle.primitives.proofs.lemmas.Solids.{convex_by}
 use Rattle.primitives.proofs.polyhedron.check_surface.Goals as goal
 
 pub returns-then-not-are_flat-clause-fault : goal.returns-then-not-are_flat-clause-fault

@@ -3,7 +3,7 @@ use Rattle.std.proofs.lemmas.Result.{err_from_is_err_and}
 use Rattle.primitives.specs.Shapes.{Mesh, IsShape}
 use Rattle.primitives.specs.Polyhedra.{polyhedron_of}
 use Rattle.primitives.proofs.FirstFaults.{answers_stop}
-use Rattle.primitives.proofs.Solids.{shape_of}
+use Rattle.primitives.proofs.lemmas.Solids.{shape_of}
 use Rattle.primitives.proofs.polyhedron.polyhedron_shape.Goals as goal
 
 pub returns-in_err-placed-clause-first_fault : goal.returns-in_err-placed-clause-first_fault

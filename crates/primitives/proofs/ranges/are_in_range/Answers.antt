@@ -1,6 +1,6 @@
 use Rattle.std.proofs.Common.{ℤ, List, [], arith}
 use Rattle.plane_predicate.specs.Space.{point_at}
-use Rattle.primitives.proofs.Lists.{all_done, all_next}
+use Rattle.primitives.proofs.lemmas.Lists.{all_done, all_next}
 use Rattle.primitives.specs.Shapes.{IsPointInRange}
 use Rattle.primitives.proofs.ranges.are_in_range.Goals as goal
 

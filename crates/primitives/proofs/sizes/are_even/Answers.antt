@@ -1,5 +1,5 @@
 use Rattle.std.proofs.Common.{rules, arith, get_or, pos, ap, ◌≡◌, ◌∙◌, unsigned_abs, to_z-of_z, FitsSigned, w64}
-use Rattle.primitives.proofs.Lists.{all_done, all_next}
+use Rattle.primitives.proofs.lemmas.Lists.{all_done, all_next}
 use Rattle.primitives.specs.Sizes.{length_in_grid_steps, IsEven}
 use Rattle.primitives.proofs.sizes.are_even.Goals as goal
 

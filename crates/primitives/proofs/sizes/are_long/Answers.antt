@@ -1,6 +1,6 @@
 use Rattle.std.proofs.Common.{rules, arith, get_or, pos, to_z-of_z, FitsSigned, w64}
 use Rattle.std.proofs.lemmas.Int.{ints}
-use Rattle.primitives.proofs.Lists.{all_done, all_next}
+use Rattle.primitives.proofs.lemmas.Lists.{all_done, all_next}
 use Rattle.primitives.specs.Sizes.{IsAtLeastOne}
 use Rattle.primitives.proofs.sizes.are_long.Goals as goal
 

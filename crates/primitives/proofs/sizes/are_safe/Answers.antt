@@ -1,5 +1,5 @@
 use Rattle.std.proofs.Common.{rules, ℤ, arith, get_or, pos, subst, to_z-of_z, FitsSigned, w64}
-use Rattle.primitives.proofs.Lists.{all_done, all_next}
+use Rattle.primitives.proofs.lemmas.Lists.{all_done, all_next}
 use Rattle.primitives.specs.Sizes.{length_in_grid_steps, IsSafe}
 use Rattle.primitives.proofs.sizes.are_safe.Goals as goal
 

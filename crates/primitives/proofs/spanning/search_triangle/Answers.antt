@@ -1,7 +1,7 @@
 use Rattle.std.proofs.Common.{ℕ, All, arith, get_or, refl}
 use Rattle.plane_predicate.specs.Space.{AreCollinear}
 use Rattle.primitives.specs.Shapes.{mesh_point}
-use Rattle.primitives.proofs.Lists.{all_done, all_next}
+use Rattle.primitives.proofs.lemmas.Lists.{all_done, all_next}
 use Rattle.primitives.proofs.Triangles.{no_lines}
 use Rattle.primitives.proofs.spanning.search_triangle.Goals as goal
 

@@ -1,7 +1,7 @@
 use Rattle.std.proofs.Common.{ℕ, arith, get_or}
 use Rattle.plane_predicate.specs.Space.{AreCollinear}
 use Rattle.primitives.specs.Shapes.{mesh_point}
-use Rattle.primitives.proofs.Lists.{all_done, all_next}
+use Rattle.primitives.proofs.lemmas.Lists.{all_done, all_next}
 use Rattle.primitives.proofs.Triangles.{collinear_by}
 use Rattle.primitives.proofs.spanning.third_corner.Goals as goal
 

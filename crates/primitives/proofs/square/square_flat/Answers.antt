@@ -1,6 +1,6 @@
 use Rattle.std.proofs.Common.{rules, ◌≡◌, ◌∙◌, sym, subst, refl, arith, get_or, pos, to_z-of_z, FitsSigned, w64}
 use Rattle.primitives.specs.Polygons.{rectangle_of, square_of, IsFlatShape}
-use Rattle.primitives.proofs.Rectangles.{same_rectangle, square_is_flat}
+use Rattle.primitives.proofs.lemmas.Rectangles.{same_rectangle, square_is_flat}
 use Rattle.primitives.proofs.square.square_flat.Goals as goal
 
 pub of-requires : goal.of-requires

@@ -1,5 +1,5 @@
 use Rattle.std.proofs.Common.{◌≡◌, ◌++◌, drop, flat_map}
-use Rattle.text_place.specs.Separators.{newline}
+use Rattle.plain_text.specs.Separators.{newline}
 use Rattle.reply_text.specs.Parts.{Grows}
 use Rattle.reply_text.proofs.text.push_lines.Given as goal
 

@@ -2,7 +2,7 @@ use Rattle.std.proofs.Common.{rules, ◌≡◌, ◌∙◌, ◌≤◌, ap, sym, s
 use Rattle.std.proofs.lemmas.Int.{ints}
 use Rattle.primitives.specs.Polygons.{IsFlatShape}
 use Rattle.round_four.specs.Circles.{circle_of, circle_points}
-use Rattle.round_four.proofs.Circles.{sized_circle_is_flat}
+use Rattle.round_four.proofs.lemmas.Circles.{sized_circle_is_flat}
 use Rattle.round_four.proofs.circle.circle_flat.Goals as goal
 
 pub of-requires : goal.of-requires

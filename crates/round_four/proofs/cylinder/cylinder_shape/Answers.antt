@@ -1,7 +1,7 @@
 use Rattle.std.proofs.Common.{rules, ◌≡◌, ◌∙◌, ◌++◌, sym, subst, refl, to_z-of_z, FitsSigned, w64}
 use Rattle.primitives.specs.Shapes.{Mesh, IsShape}
 use Rattle.round_four.specs.Cylinders.{cylinder_between, cylinder_faces, cylinder_of, end_points}
-use Rattle.round_four.proofs.Cylinders.{cylinder_is_shape, same_cylinder}
+use Rattle.round_four.proofs.lemmas.Cylinders.{cylinder_is_shape, same_cylinder}
 use Rattle.round_four.proofs.cylinder.cylinder_shape.Goals as goal
 
 pub of-requires : goal.of-requires

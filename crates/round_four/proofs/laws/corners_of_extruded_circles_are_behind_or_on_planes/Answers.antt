@@ -1,5 +1,5 @@
 use Rattle.primitives.specs.Sizes.{high_end, low_end}
-use Rattle.primitives.proofs.PrismPlanes.{prism_behind}
+use Rattle.primitives.proofs.lemmas.PrismPlanes.{prism_behind}
 use Rattle.round_four.specs.Circles.{circle_of}
 use Rattle.round_four.proofs.laws.corners_of_extruded_circles_are_behind_or_on_planes.Goals as goal
 

@@ -1,5 +1,5 @@
 use Rattle.std.proofs.Common.{rules, to_z-of_z, FitsSigned, w64}
-use Rattle.primitives.proofs.CornersBehind.{map_false}
+use Rattle.primitives.proofs.lemmas.CornersBehind.{map_false}
 use Rattle.round_four.proofs.Near.{not_near}
 use Rattle.round_four.proofs.sizes.is_in_range.Goals as goal
 

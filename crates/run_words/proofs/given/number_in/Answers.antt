@@ -1,5 +1,5 @@
 use Rattle.std.proofs.Common.{rules, sym, subst}
-use Rattle.text_place.specs.Decimals.{IsShortNumeral}
+use Rattle.plain_text.specs.Decimals.{IsShortNumeral}
 use Rattle.run_words.proofs.Found.{if_none, text_in, says_none, says_number, says_nothing}
 use Rattle.run_words.proofs.given.number_in.Goals as goal
 

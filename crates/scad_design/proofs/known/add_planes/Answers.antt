@@ -1,6 +1,6 @@
 use Rattle.std.proofs.Common.{subst, arith}
 use Rattle.plane_predicate.specs.Space.{IsPlane}
-use Rattle.primitives.proofs.Lists.{all_done, all_next}
+use Rattle.primitives.proofs.lemmas.Lists.{all_done, all_next}
 use Rattle.scad_design.proofs.KnownPlanes.{plane_added}
 use Rattle.scad_design.proofs.known.add_planes.Goals as goal
 

@@ -1,4 +1,4 @@
-use Rattle.scad_design.proofs.SomePlacing.{some_placing}
+use Rattle.scad_design.proofs.lemmas.SomePlacing.{some_placing}
 use Rattle.scad_design.proofs.laws.some_placing.Goals as goal
 
 pub returns : goal.returns

@@ -1,7 +1,7 @@
 use Rattle.std.proofs.lemmas.Result.{err_from_is_err_and}
 use Rattle.scad_ast.specs.ProgramView.{program_of}
 use Rattle.scad_eval.proofs.Programs.{design_stop_held, placed_tree, placing_stop, proper_tree}
-use Rattle.scad_meaning.proofs.ProgramPlaces.{result_held}
+use Rattle.scad_meaning.proofs.lemmas.ProgramPlaces.{result_held}
 use Rattle.scad_eval.proofs.program.evaluate.Goals as goal
 
 pub returns-clause-tree : goal.returns-clause-tree

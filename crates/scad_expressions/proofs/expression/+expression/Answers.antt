@@ -15,7 +15,7 @@ use Rattle.scad_grammar.specs.Grammar.{levels, unary_term, index_term, paren_ter
 use Rattle.scad_grammar.specs.Languages.{pair_of}
 use Rattle.scad_grammar.specs.Reading.{Read, then_read, sequence_read, optional_read, with_front}
 use Rattle.scad_grammar.specs.Reads.{expr_read, operand_read, arg_in, args_read, suffix_read, rest_read, chain_read, choice_read, in_parentheses}
-use Rattle.scad_grammar.proofs.Readers.{loop_more, loop_end, loop_fault}
+use Rattle.scad_grammar.proofs.lemmas.Readers.{loop_more, loop_end, loop_fault}
 use Rattle.scad_expressions.specs.declared.class.Level.TheVariants.{Or}
 use Rattle.scad_expressions.specs.TokenClasses.{operators_at, levels_below, suffix_signs}
 use Rattle.scad_expressions.specs.Views.{has_lone_atom, past_comma}
@@ -23,12 +23,12 @@ use Rattle.scad_expressions.proofs.Climbs.{chain_climbs, chain_stops, climb_none
 use Rattle.scad_expressions.specs.Climbing.{primary_in, unary_in}
 use Rattle.scad_expressions.proofs.Atoms.{literal_is_atom, literal_taken, literal_read, atom_is_operand, atom_is_side, atom_is_expression}
 use Rattle.scad_expressions.proofs.Levels.{same_level, looser_step}
-use Rattle.scad_expressions.proofs.Depths.{expr_none, expr_deeper, operand_none, operand_deeper}
-use Rattle.scad_expressions.proofs.Given.{arg_given, arg_positional}
-use Rattle.scad_expressions.proofs.Lengths.{link_strict, suffix_strict, expr_shorter, arg_shorter, arguments_shorter, given_shorter}
-use Rattle.scad_expressions.proofs.Loops.{many_more, many_end, many_stop, trailing_more, trailing_end, trailing_stop, past_shorter}
-use Rattle.scad_expressions.proofs.Stops.{links_in, suffixes_in, sides_in, some_links_in, some_suffixes_in, token_of, same_read, memory_ran_out, stops, made_stops, with_gives, boxed_gives, closed_gives, closed_made, parenthesized, operand_goes, item_goes, link_goes, first_link_goes, suffix_goes, first_suffix_goes, arg_goes}
-use Rattle.scad_expressions.proofs.Trees.{terms_roll, positional_made, index_made, paren_made, chain_made, postfix_made, args_roll}
+use Rattle.scad_expressions.proofs.lemmas.Depths.{expr_none, expr_deeper, operand_none, operand_deeper}
+use Rattle.scad_expressions.proofs.lemmas.Given.{arg_given, arg_positional}
+use Rattle.scad_expressions.proofs.lemmas.Lengths.{link_strict, suffix_strict, expr_shorter, arg_shorter, arguments_shorter, given_shorter}
+use Rattle.scad_expressions.proofs.lemmas.Loops.{many_more, many_end, many_stop, trailing_more, trailing_end, trailing_stop, past_shorter}
+use Rattle.scad_expressions.proofs.lemmas.Stops.{links_in, suffixes_in, sides_in, some_links_in, some_suffixes_in, token_of, same_read, memory_ran_out, stops, made_stops, with_gives, boxed_gives, closed_gives, closed_made, parenthesized, operand_goes, item_goes, link_goes, first_link_goes, suffix_goes, first_suffix_goes, arg_goes}
+use Rattle.scad_expressions.proofs.lemmas.Trees.{terms_roll, positional_made, index_made, paren_made, chain_made, postfix_made, args_roll}
 use Rattle.scad_expressions.proofs.expression.+expression.Goals as goal
 use Rattle.scad_expressions.proofs.expression.+expression.Goals.{climb_below-then-begins+in_ok-chained, climb_below-else-begins}
 

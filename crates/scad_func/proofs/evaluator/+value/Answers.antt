@@ -37,13 +37,13 @@ use Rattle.scad_definitions.specs.declared.parameters.Destination.{Destination}
 use Rattle.scad_func.specs.Evaluations.{EvaluatesTo, OneCallDeeper, MoreBindings, numbered_env_here, expression_context_here, work_left}
 use Rattle.scad_func.specs.Transitions.{IsRefusedCall}
 use Rattle.scad_func.specs.declared.source.Source.{Source}
-use Rattle.scad_func.proofs.Outcomes.{meets_along, fault_goes, evaluated_deeper, evaluated_too_deep, value_counted, fault_counted, values_end, terms_here, terms_end, args_here, args_end, values_here, suffixes_here, suffix_step, links_here, step_more, step_fault, name_then, fault_at, link_wants}
-use Rattle.scad_func.proofs.Counting.{call_goes, call_refused}
+use Rattle.scad_func.proofs.lemmas.Outcomes.{meets_along, fault_goes, evaluated_deeper, evaluated_too_deep, value_counted, fault_counted, values_end, terms_here, terms_end, args_here, args_end, values_here, suffixes_here, suffix_step, links_here, step_more, step_fault, name_then, fault_at, link_wants}
+use Rattle.scad_func.proofs.lemmas.Counting.{call_goes, call_refused}
 use Rattle.scad_func.proofs.Environments.{variable_same}
 use Rattle.scad_func.proofs.Steps.{deep_enough, param_deep, params_here, params_end, slots_here, filled_end, argument_none}
 use Rattle.scad_func.proofs.Forms.{name_form, special_form, count_form, postfix_form, chain_form, choice_form, link_form, member_form, args_form}
-use Rattle.scad_func.proofs.Kept.{stops, goes, answers, keeps_from, keeps_same, keeps_trans, call_found, moved, work_falls, call_kept, call_setting, specials_kept, specials_setting}
-use Rattle.scad_func.proofs.GivenSeen.{taker_given, nothing_seen, held_seen}
+use Rattle.scad_func.proofs.lemmas.Kept.{stops, goes, answers, keeps_from, keeps_same, keeps_trans, call_found, moved, work_falls, call_kept, call_setting, specials_kept, specials_setting}
+use Rattle.scad_func.proofs.lemmas.GivenSeen.{taker_given, nothing_seen, held_seen}
 use Rattle.scad_func.proofs.Holding.{argument_stops, item_told, item_stops, longer_length, argument_held, if_err_at, if_ok_at, on_ok_at, on_err_at, none_told}
 use Rattle.scad_func.proofs.evaluator.+value.Goals as goal
 

@@ -2,7 +2,7 @@ use Rattle.std.proofs.Common.{◌∙◌, ◌<ℤ◌, ap, subst, arith, get_or, p
 use Rattle.plane_predicate.specs.Space.{Coefficients, opposite_of, value}
 use Rattle.primitives.specs.Shapes.{mesh_point, value_at_point}
 use Rattle.scad_hull.specs.Steps.{HasNoFace}
-use Rattle.scad_hull.proofs.Lines.{plane}
+use Rattle.scad_hull.proofs.lemmas.Lines.{plane}
 use Rattle.scad_hull.proofs.PlaneRows.{carried}
 use Rattle.scad_hull.proofs.Surrounded.{surrounded}
 use Rattle.scad_hull.proofs.around.surround.Goals as goal

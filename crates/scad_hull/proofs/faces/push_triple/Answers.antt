@@ -1,7 +1,7 @@
 use Rattle.std.proofs.Common.{◌∙◌, ap}
 use Rattle.std.specs.List.{list_any}
 use Rattle.scad_hull.specs.Hulls.{shares_plane}
-use Rattle.scad_hull.proofs.Loops.{kept_supported, pushed}
+use Rattle.scad_hull.proofs.lemmas.Loops.{kept_supported, pushed}
 use Rattle.scad_hull.proofs.PlaneRows.{found_push}
 use Rattle.scad_hull.proofs.faces.push_triple.Goals as goal
 

@@ -1,6 +1,6 @@
 use Rattle.std.proofs.Common.{rules, ◌≡◌, ◌∙◌, ap, sym, subst, length, List, ℤ}
 use Rattle.scad_hull.specs.Hulls.{faces_of_hull, numbers_between, AreOnOnePlane}
-use Rattle.scad_hull.proofs.Loops.{inside_by, numbered_by, shape_by}
+use Rattle.scad_hull.proofs.lemmas.Loops.{inside_by, numbered_by, shape_by}
 use Rattle.scad_hull.proofs.hull.hull_shape.Goals as goal
 
 pub are_on_one_plane-requires : goal.are_on_one_plane-requires

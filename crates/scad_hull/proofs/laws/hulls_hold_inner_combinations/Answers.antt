@@ -1,4 +1,4 @@
-use Rattle.scad_hull.proofs.Loops.{hull_is_shape, hull_inside}
+use Rattle.scad_hull.proofs.lemmas.Loops.{hull_is_shape, hull_inside}
 use Rattle.scad_hull.proofs.laws.hulls_hold_inner_combinations.Goals as goal
 
 pub returns-clause-shape : goal.returns-clause-shape

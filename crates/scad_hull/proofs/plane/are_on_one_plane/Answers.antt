@@ -1,5 +1,5 @@
 use Rattle.std.proofs.Common.{refl}
-use Rattle.scad_hull.proofs.Loops.{all_below, flat_by_lines, on_false, solid_by_plane}
+use Rattle.scad_hull.proofs.lemmas.Loops.{all_below, flat_by_lines, on_false, solid_by_plane}
 use Rattle.scad_hull.proofs.plane.are_on_one_plane.Goals as goal
 
 pub find_triangle-requires-clause-there : goal.find_triangle-requires-clause-there

@@ -1,6 +1,6 @@
 use Rattle.std.proofs.Common.{◌≡◌, pos, ℤ, List, [], arith}
 use Rattle.plane_predicate.specs.Space.{point_at, value}
-use Rattle.primitives.proofs.Lists.{all_done, all_next}
+use Rattle.primitives.proofs.lemmas.Lists.{all_done, all_next}
 use Rattle.scad_hull.proofs.plane.holds_all.Goals as goal
 
 pub loop-point-preserved : goal.loop-point-preserved

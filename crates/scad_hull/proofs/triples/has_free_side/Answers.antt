@@ -1,4 +1,4 @@
-use Rattle.scad_hull.proofs.Loops.{all_below, side_is}
+use Rattle.scad_hull.proofs.lemmas.Loops.{all_below, side_is}
 use Rattle.scad_hull.proofs.triples.has_free_side.Goals as goal
 
 pub face_has_ahead-requires-clause-there : goal.face_has_ahead-requires-clause-there

@@ -1,5 +1,5 @@
 use Rattle.plane_predicate.specs.Space.{point_at, value}
-use Rattle.scad_hull.proofs.Loops.{on_is}
+use Rattle.scad_hull.proofs.lemmas.Loops.{on_is}
 use Rattle.scad_hull.proofs.triples.holds.Goals as goal
 
 pub returns : goal.returns

@@ -1,4 +1,4 @@
-use Rattle.scad_hull.proofs.Loops.{direction_is}
+use Rattle.scad_hull.proofs.lemmas.Loops.{direction_is}
 use Rattle.scad_hull.proofs.triples.is_directed.Goals as goal
 
 pub returns : goal.returns

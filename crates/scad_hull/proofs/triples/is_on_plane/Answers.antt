@@ -1,4 +1,4 @@
-use Rattle.scad_hull.proofs.Loops.{by_third}
+use Rattle.scad_hull.proofs.lemmas.Loops.{by_third}
 use Rattle.scad_hull.proofs.triples.is_on_plane.Goals as goal
 
 pub returns : goal.returns

@@ -1,5 +1,5 @@
-use Rattle.scad_meaning.proofs.Judges.{some_judge}
-use Rattle.scad_meaning.proofs.Verdicts.{one_solid_verdict, one_flat_verdict, one_height_verdict, one_hull_verdict}
+use Rattle.scad_meaning.proofs.lemmas.Judges.{some_judge}
+use Rattle.scad_meaning.proofs.lemmas.Verdicts.{one_solid_verdict, one_flat_verdict, one_height_verdict, one_hull_verdict}
 use Rattle.scad_meaning.proofs.laws.shapes_have_one_verdict.Goals as goal
 
 pub returns-clause-some : goal.returns-clause-some

@@ -1,7 +1,7 @@
 use Rattle.scad_ast.specs.ExprView.{term_of}
 use Rattle.scad_ast.specs.StatementView.{statement_of}
 use Rattle.scad_grammar.specs.Grammar.{assignment_term}
-use Rattle.scad_expressions.proofs.Stops.{memory_ran_out, made_stops}
+use Rattle.scad_expressions.proofs.lemmas.Stops.{memory_ran_out, made_stops}
 use Rattle.scad_parser.proofs.assignments.assignment.Goals as goal
 
 pub returns-in_err-bytes : goal.returns-in_err-bytes

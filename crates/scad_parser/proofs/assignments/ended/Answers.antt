@@ -1,6 +1,6 @@
 use Rattle.scad_ast.specs.ExprView.{term_of}
 use Rattle.scad_grammar.specs.Classes.{semicolon_sign, has_class}
-use Rattle.scad_expressions.proofs.Stops.{closed_gives}
+use Rattle.scad_expressions.proofs.lemmas.Stops.{closed_gives}
 use Rattle.scad_parser.proofs.assignments.ended.Goals as goal
 
 pub returns : goal.returns

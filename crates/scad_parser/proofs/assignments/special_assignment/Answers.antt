@@ -1,5 +1,5 @@
 use Rattle.scad_ast.specs.StatementView.{statement_of}
-use Rattle.scad_expressions.proofs.Stops.{memory_ran_out}
+use Rattle.scad_expressions.proofs.lemmas.Stops.{memory_ran_out}
 use Rattle.scad_parser.proofs.assignments.special_assignment.Goals as goal
 
 pub returns-in_err-bytes : goal.returns-in_err-bytes

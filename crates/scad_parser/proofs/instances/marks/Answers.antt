@@ -7,10 +7,10 @@ use Rattle.scad_grammar.specs.Classes.{has_class_in}
 use Rattle.scad_grammar.specs.Grammar.{modifier_term}
 use Rattle.scad_grammar.specs.Reading.{Read, then_read}
 use Rattle.scad_grammar.specs.StatementReads.{modifier_signs}
-use Rattle.scad_grammar.proofs.Readers.{loop_more, loop_end}
-use Rattle.scad_expressions.proofs.Lengths.{mark_strict}
-use Rattle.scad_expressions.proofs.Loops.{many_more, many_end}
-use Rattle.scad_expressions.proofs.Stops.{memory_ran_out}
+use Rattle.scad_grammar.proofs.lemmas.Readers.{loop_more, loop_end}
+use Rattle.scad_expressions.proofs.lemmas.Lengths.{mark_strict}
+use Rattle.scad_expressions.proofs.lemmas.Loops.{many_more, many_end}
+use Rattle.scad_expressions.proofs.lemmas.Stops.{memory_ran_out}
 use Rattle.scad_parser.proofs.instances.marks.Goals as goal
 
 pub marks-preserved : goal.marks-preserved

@@ -2,7 +2,7 @@ use Rattle.scad_ast.specs.StatementView.{binders_of}
 use Rattle.scad_grammar.specs.Classes.{close_parenthesis_sign, has_class}
 use Rattle.scad_grammar.specs.Reads.{expr_read}
 use Rattle.scad_grammar.specs.StatementReads.{binder_in, binders_read}
-use Rattle.scad_expressions.proofs.Stops.{same_read, closed_gives, parenthesized}
+use Rattle.scad_expressions.proofs.lemmas.Stops.{same_read, closed_gives, parenthesized}
 use Rattle.scad_parser.proofs.loop_variables.binders.Goals as goal
 
 pub returns : goal.returns

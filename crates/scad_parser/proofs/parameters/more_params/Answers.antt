@@ -5,11 +5,11 @@ use Rattle.scad_ast.specs.StatementView.{param_of, params_of}
 use Rattle.scad_grammar.specs.Classes.{name_class, has_class}
 use Rattle.scad_grammar.specs.Reads.{expr_read}
 use Rattle.scad_grammar.specs.StatementReads.{param_in}
-use Rattle.scad_grammar.proofs.Readers.{loop_more, loop_end, loop_fault}
+use Rattle.scad_grammar.proofs.lemmas.Readers.{loop_more, loop_end, loop_fault}
 use Rattle.scad_expressions.specs.Views.{past_comma}
-use Rattle.scad_expressions.proofs.Lengths.{param_shorter}
-use Rattle.scad_expressions.proofs.Loops.{trailing_more, trailing_end, trailing_stop, past_shorter}
-use Rattle.scad_expressions.proofs.Stops.{param_goes, memory_ran_out}
+use Rattle.scad_expressions.proofs.lemmas.Lengths.{param_shorter}
+use Rattle.scad_expressions.proofs.lemmas.Loops.{trailing_more, trailing_end, trailing_stop, past_shorter}
+use Rattle.scad_expressions.proofs.lemmas.Stops.{param_goes, memory_ran_out}
 use Rattle.scad_parser.proofs.parameters.more_params.Goals as goal
 
 pub returns-in_err-item : goal.returns-in_err-item

@@ -1,5 +1,5 @@
 use Rattle.scad_ast.specs.StatementView.{params_of}
-use Rattle.scad_expressions.proofs.Stops.{memory_ran_out}
+use Rattle.scad_expressions.proofs.lemmas.Stops.{memory_ran_out}
 use Rattle.scad_parser.proofs.parameters.param_list.Goals as goal
 
 pub returns-in_err-items : goal.returns-in_err-items

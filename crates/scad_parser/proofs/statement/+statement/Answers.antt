@@ -7,13 +7,13 @@ use Rattle.scad_grammar.specs.Grammar.{assignment_term}
 use Rattle.scad_grammar.specs.Reading.{next_is}
 use Rattle.scad_grammar.specs.Reads.{expr_read}
 use Rattle.scad_grammar.specs.StatementReads.{firsts_of_statement, param_in, body_read, instance_in, ended_read, definition_read}
-use Rattle.scad_grammar.proofs.Readers.{loop_more, loop_end, loop_fault}
-use Rattle.scad_expressions.proofs.Depths.{statement_none, statement_deeper, body_none, body_deeper}
-use Rattle.scad_expressions.proofs.Given.{assigned_ahead, none_ahead}
-use Rattle.scad_expressions.proofs.Lengths.{statement_strict}
-use Rattle.scad_expressions.proofs.Loops.{many_more, many_end, many_stop}
-use Rattle.scad_expressions.proofs.Stops.{same_read, statement_goes, memory_ran_out, boxed_gives, closed_gives}
-use Rattle.scad_expressions.proofs.Trees.{statements_roll}
+use Rattle.scad_grammar.proofs.lemmas.Readers.{loop_more, loop_end, loop_fault}
+use Rattle.scad_expressions.proofs.lemmas.Depths.{statement_none, statement_deeper, body_none, body_deeper}
+use Rattle.scad_expressions.proofs.lemmas.Given.{assigned_ahead, none_ahead}
+use Rattle.scad_expressions.proofs.lemmas.Lengths.{statement_strict}
+use Rattle.scad_expressions.proofs.lemmas.Loops.{many_more, many_end, many_stop}
+use Rattle.scad_expressions.proofs.lemmas.Stops.{same_read, statement_goes, memory_ran_out, boxed_gives, closed_gives}
+use Rattle.scad_expressions.proofs.lemmas.Trees.{statements_roll}
 use Rattle.scad_parser.proofs.statement.+statement.Goals as goal
 
 pub statement-returns-then-depth-eq0 : goal.statement-returns-then-depth-eq0

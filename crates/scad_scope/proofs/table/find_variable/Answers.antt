@@ -1,5 +1,5 @@
 use Rattle.scad_definitions.specs.Names.{newest_first}
-use Rattle.scad_scope.proofs.Chain.{value_found}
+use Rattle.scad_scope.proofs.lemmas.Chain.{value_found}
 use Rattle.scad_scope.proofs.table.find_variable.Goals as goal
 
 pub returns : goal.returns

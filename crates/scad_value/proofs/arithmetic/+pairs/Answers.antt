@@ -4,7 +4,7 @@ use Rattle.scad_value.specs.Values.{vals_from}
 use Rattle.scad_value.specs.Operators.{values_in_front, pairs_by_elements}
 use Rattle.scad_value.specs.View.{vals_in, MeetsAnswers}
 use Rattle.scad_value.specs.Rows.{pair_row}
-use Rattle.scad_value.proofs.Lists.{pairs_more, pairs_end, vals_out, equal_counts, unequal_counts}
+use Rattle.scad_value.proofs.lemmas.Lists.{pairs_more, pairs_end, vals_out, equal_counts, unequal_counts}
 use Rattle.scad_value.proofs.arithmetic.+pairs.Goals as goal
 
 pub equal_lists-returns-then-len : goal.equal_lists-returns-then-len

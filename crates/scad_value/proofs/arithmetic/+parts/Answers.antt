@@ -5,7 +5,7 @@ use Rattle.scad_value.specs.Values.{vals_from}
 use Rattle.scad_value.specs.Operators.{values_in_front, each_of_elements}
 use Rattle.scad_value.specs.Rows.{part_row}
 use Rattle.scad_value.specs.View.{vals_in}
-use Rattle.scad_value.proofs.Lists.{vals_out, parts_begin, parts_more, parts_stop, parts_end}
+use Rattle.scad_value.proofs.lemmas.Lists.{vals_out, parts_begin, parts_more, parts_stop, parts_end}
 use Rattle.scad_value.proofs.arithmetic.+parts.Goals as goal
 
 pub each_of-loop-value-init : goal.each_of-loop-value-init

@@ -6,7 +6,7 @@ use Rattle.scad_value.specs.Values.{vals_from, element_count_in}
 use Rattle.scad_value.specs.Operators.{plus_answer, dot_of}
 use Rattle.scad_value.specs.View.{vals_in}
 use Rattle.scad_value.proofs.Integers.{sum_fits, sum_is, sum_size, plus_plus}
-use Rattle.scad_value.proofs.Lists.{dot_more, small_here, length-le_parts, vals_out}
+use Rattle.scad_value.proofs.lemmas.Lists.{dot_more, small_here, length-le_parts, vals_out}
 use Rattle.scad_value.proofs.arithmetic.dot.Goals as goal
 
 pub overflow_add-sum : goal.overflow_add-sum

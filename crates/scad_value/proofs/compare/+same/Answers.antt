@@ -1,5 +1,5 @@
 use Rattle.std.proofs.Common.{arith}
-use Rattle.scad_value.proofs.Lists.{apart_out}
+use Rattle.scad_value.proofs.lemmas.Lists.{apart_out}
 use Rattle.scad_value.proofs.compare.+same.Goals as goal
 
 pub all_same-returns-then-len : goal.all_same-returns-then-len

@@ -1,6 +1,6 @@
 use Rattle.std.proofs.Common.{◌∙◌, sym, ap, arith}
 use Rattle.scad_value.specs.Values.{TextVal}
-use Rattle.scad_value.proofs.Lists.{byte_here, byte_past}
+use Rattle.scad_value.proofs.lemmas.Lists.{byte_here, byte_past}
 use Rattle.scad_value.proofs.operator.byte_from_start.Goals as goal
 
 pub returns-then-n-bytes : goal.returns-then-n-bytes

@@ -1,7 +1,7 @@
 use Rattle.std.proofs.Common.{◌∙◌, sym, ap, subst, arith}
 use Rattle.scad_value.specs.Operators.{number_answer}
 use Rattle.scad_value.specs.View.{MeetsAnswer}
-use Rattle.scad_value.proofs.Lists.{dot_row_is, dot_row_apart}
+use Rattle.scad_value.proofs.lemmas.Lists.{dot_row_is, dot_row_apart}
 use Rattle.scad_value.proofs.operator.dot_product.Goals as goal
 
 pub returns-then-len : goal.returns-then-len

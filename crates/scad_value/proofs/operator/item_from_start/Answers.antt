@@ -3,7 +3,7 @@ use Rattle.std.specs.Prelude.{IfOk}
 use Rattle.scad_value.specs.Values.{vals_from}
 use Rattle.scad_value.specs.Operators.{item_at}
 use Rattle.scad_value.specs.View.{val_of}
-use Rattle.scad_value.proofs.Lists.{item_here, item_past}
+use Rattle.scad_value.proofs.lemmas.Lists.{item_here, item_past}
 use Rattle.scad_value.proofs.operator.item_from_start.Goals as goal
 
 pub returns-then-n-items : goal.returns-then-n-items

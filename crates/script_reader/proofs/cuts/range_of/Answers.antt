@@ -1,5 +1,5 @@
 use Rattle.std.proofs.Common.{◌≡◌, ℕ, List, [], ◌∷◌, length, drop, get_or, arith, ◌≤◌, refl, sym, subst}
-use Rattle.text_place.specs.Decimals.{IsShortNumeral}
+use Rattle.plain_text.specs.Decimals.{IsShortNumeral}
 use Rattle.std.proofs.lemmas.Bool.{false≢true}
 use Rattle.std.proofs.lemmas.List.{nil_from_length, take_rest}
 use Rattle.script_reader.specs.Reading.{IsRange}

@@ -7,7 +7,8 @@ use Rattle.script_run.specs.Asking.{MayServe}
 use Rattle.script_run.specs.Moves.{MovesAlong}
 use Rattle.script_run.proofs.client.serve_client.Given as goal
 
--- replies that fit what is left fit all commands behind the replies so far, and the exporter may export what those that are left may
+-- replies that fit what is left fit all commands behind the replies so far, and the exporter may export what those that are
+-- left may
 abbrev pub invariant-loop-command : goal.invariant-loop-command
 invariant-loop-command g l = record {
   room : vec_len l.replies + length (drop l.command-index l.commands) ≤ vec_capacity l.replies;

@@ -1,6 +1,6 @@
 use Rattle.std.proofs.Common.{◌++◌, ◌+◌, rules, suc, drop, arith}
 use Rattle.std.proofs.lemmas.Result.{err_from_is_err_and}
-use Rattle.text_place.specs.Decimals.{numeral}
+use Rattle.plain_text.specs.Decimals.{numeral}
 use Rattle.reply_text.specs.Texts.{reply_body, replies_text}
 use Rattle.script_service.proofs.Sent.{next_reply, sent_piece, cut_piece}
 use Rattle.script_service.proofs.output.write_replies.Goals as goal

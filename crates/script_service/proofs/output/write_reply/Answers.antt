@@ -1,6 +1,6 @@
 use Rattle.std.proofs.Common.{◌++◌}
 use Rattle.std.proofs.lemmas.Result.{err_from_is_err_and}
-use Rattle.text_place.specs.Decimals.{numeral}
+use Rattle.plain_text.specs.Decimals.{numeral}
 use Rattle.reply_text.specs.Texts.{reply_body}
 use Rattle.script_service.proofs.Sent.{cut_before_all, reply_is_some}
 use Rattle.script_service.proofs.output.write_reply.Goals as goal

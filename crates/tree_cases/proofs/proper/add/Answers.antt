@@ -1,6 +1,5 @@
-use Rattle.std.proofs.Common.{◌≡◌, ◌∷◌, ◌++◌, [], subst, rules}
+use Rattle.std.proofs.Common.{◌≡◌, ◌∷◌, ◌++◌, [], rules}
 use Rattle.std.proofs.lemmas.List.Elements.{All-append, All-cons, All-nil}
-use Rattle.plane_predicate.specs.Space.{IsPlane}
 use Rattle.csg_tree.specs.ProperTrees.{IsLeafPlane}
 use Rattle.tree_cases.proofs.proper.add.Goals as goal
 
@@ -8,7 +7,7 @@ pub returns : goal.returns
 returns c =
     let items : c.push.new.self.items ≡ c.args.planes.now.items ++ c.args.plane ∷ [] = search rules in
     let plane : IsLeafPlane c.args.plane =
-    record { plane = subst IsPlane c.plane.view_is c.plane.invariant; reach = c.requires.reach } in
+    record { plane = c.planes_keep_their_form.ensures; reach = c.requires.reach } in
     record {
       all = rw items
           (All-append IsLeafPlane c.args.planes.now.items (c.args.plane ∷ []) c.requires.all

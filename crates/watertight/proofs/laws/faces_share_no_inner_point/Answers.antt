@@ -1,4 +1,4 @@
-use Rattle.watertight.proofs.Overlaps.{no_overlaps}
+use Rattle.watertight.proofs.lemmas.Overlaps.{no_overlaps}
 use Rattle.watertight.proofs.laws.faces_share_no_inner_point.Goals as goal
 
 pub returns : goal.returns

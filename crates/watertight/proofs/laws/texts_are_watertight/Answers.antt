@@ -1,4 +1,4 @@
-use Rattle.watertight.proofs.Vertices.{boxed_watertight}
+use Rattle.watertight.proofs.lemmas.Vertices.{boxed_watertight}
 use Rattle.watertight.proofs.laws.texts_are_watertight.Goals as goal
 
 pub returns-clause-everywhere : goal.returns-clause-everywhere

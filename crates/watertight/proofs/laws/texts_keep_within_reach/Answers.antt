@@ -1,4 +1,4 @@
-use Rattle.watertight.proofs.Vertices.{all_in_reach, watertight}
+use Rattle.watertight.proofs.lemmas.Vertices.{all_in_reach, watertight}
 use Rattle.watertight.proofs.laws.texts_keep_within_reach.Goals as goal
 
 pub returns-clause-vertices : goal.returns-clause-vertices

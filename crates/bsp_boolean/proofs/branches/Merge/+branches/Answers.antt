@@ -8,7 +8,7 @@ use Rattle.plane_table.specs.Faces.{outline_of}
 use Rattle.bsp_tree.specs.Trees.{BspTree, node_or_leaf}
 use Rattle.bsp_tree.specs.Links.{is_alike}
 use Rattle.bsp_tree.specs.Growths.{Sheet, with_sides_exchanged, tree_on, GrowsBy, HasGrown}
-use Rattle.bsp_tree.proofs.Growths.{leaf_grows, make_size, stops, stops_after}
+use Rattle.bsp_tree.proofs.lemmas.Growths.{leaf_grows, make_size, stops, stops_after}
 use Rattle.bsp_tree.specs.Partitions.{divide}
 use Rattle.bsp_boolean.specs.Combined.{combination}
 use Rattle.bsp_boolean.proofs.Exchanges.{below_left, end_decides, end_gives, right_end_decides, right_end_gives, node_merged}

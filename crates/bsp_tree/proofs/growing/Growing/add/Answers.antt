@@ -1,5 +1,5 @@
 use Rattle.std.proofs.Common.{arith, refl}
-use Rattle.bsp_tree.proofs.Growths.{node_grows}
+use Rattle.bsp_tree.proofs.lemmas.Growths.{node_grows}
 use Rattle.bsp_tree.proofs.growing.Growing.add.Goals as goal
 
 pub returns-clause-grows : goal.returns-clause-grows

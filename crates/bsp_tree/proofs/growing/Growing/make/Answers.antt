@@ -2,7 +2,7 @@ use Rattle.std.proofs.Common.{◌∙◌, sym, subst}
 use Rattle.link_forest.specs.Forests.{AreLinked}
 use Rattle.plane_table.specs.Faces.{outline_of}
 use Rattle.bsp_tree.specs.Growths.{SolidGrowth}
-use Rattle.bsp_tree.proofs.Growths.{same_grows, other_grows}
+use Rattle.bsp_tree.proofs.lemmas.Growths.{same_grows, other_grows}
 use Rattle.bsp_tree.proofs.growing.Growing.make.Goals as goal
 
 pub returns-then-is_same_leaf : goal.returns-then-is_same_leaf

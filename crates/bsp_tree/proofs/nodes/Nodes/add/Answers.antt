@@ -1,4 +1,4 @@
-use Rattle.bsp_tree.proofs.SheetFaces.{faces_more}
+use Rattle.bsp_tree.proofs.lemmas.SheetFaces.{faces_more}
 use Rattle.bsp_tree.proofs.nodes.Nodes.add.Goals as goal
 
 pub invariant_of-self : goal.invariant_of-self

@@ -1,4 +1,4 @@
-use Rattle.bsp_tree.proofs.SheetFaces.{faces_kept}
+use Rattle.bsp_tree.proofs.lemmas.SheetFaces.{faces_kept}
 use Rattle.bsp_tree.proofs.nodes.Nodes.cut_back.Goals as goal
 
 pub invariant_of-self : goal.invariant_of-self

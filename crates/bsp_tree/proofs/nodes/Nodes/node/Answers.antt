@@ -1,4 +1,4 @@
-use Rattle.bsp_tree.proofs.SheetFaces.{face_is}
+use Rattle.bsp_tree.proofs.lemmas.SheetFaces.{face_is}
 use Rattle.bsp_tree.proofs.nodes.Nodes.node.Goals as goal
 
 pub returns-clause-face : goal.returns-clause-face

@@ -1,4 +1,4 @@
-use Rattle.bsp_tree.proofs.Wholes.{leaf_kept, leaf_stands}
+use Rattle.bsp_tree.proofs.lemmas.Wholes.{leaf_kept, leaf_stands}
 use Rattle.bsp_tree.proofs.solid.Solid.leaf.Goals as goal
 
 pub invariant_of-result : goal.invariant_of-result

@@ -1,4 +1,4 @@
-use Rattle.bsp_tree.proofs.Wholes.{grown_kept}
+use Rattle.bsp_tree.proofs.lemmas.Wholes.{grown_kept}
 use Rattle.bsp_tree.proofs.solid.Solid.of_growth.Goals as goal
 
 pub invariant_of-result : goal.invariant_of-result

@@ -1,4 +1,4 @@
-use Rattle.bsp_tree.proofs.Wholes.{whole_kept}
+use Rattle.bsp_tree.proofs.lemmas.Wholes.{whole_kept}
 use Rattle.bsp_tree.proofs.solid.Solid.of_parts.Goals as goal
 
 pub invariant_of-result : goal.invariant_of-result

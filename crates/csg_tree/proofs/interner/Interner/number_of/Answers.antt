@@ -6,7 +6,7 @@ use Rattle.csg_tree.specs.Nodes.{node_of, tree_of_node, trees_of_nodes}
 use Rattle.csg_tree.specs.Interned.{key_cmp, AreInterned, TreesStay}
 use Rattle.csg_tree.proofs.Linked.{behind_more}
 use Rattle.csg_tree.proofs.Interning.{known_number, no_number, interned_push, new_number, they_stay}
-use Rattle.csg_tree.proofs.Distinct.{distinct_known, distinct_new}
+use Rattle.csg_tree.proofs.lemmas.Distinct.{distinct_known, distinct_new}
 use Rattle.csg_tree.proofs.interner.Interner.number_of.Goals as goal
 
 pub returns-in-Some-clause-number : goal.returns-in-Some-clause-number

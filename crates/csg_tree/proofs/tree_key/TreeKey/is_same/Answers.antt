@@ -4,7 +4,7 @@ use Rattle.std.proofs.lemmas.Cmp.{nat_list_eq_equiv}
 use Rattle.csg_tree.specs.HalfSpaceTrees.{Tree}
 use Rattle.csg_tree.specs.Numberings.{is_same_tree}
 use Rattle.csg_tree.specs.TreeKeys.{name_of}
-use Rattle.csg_tree.proofs.Sameness.{tree_true}
+use Rattle.csg_tree.proofs.lemmas.Sameness.{tree_true}
 use Rattle.csg_tree.proofs.tree_key.TreeKey.is_same.Goals as goal
 
 -- trees with different names differ

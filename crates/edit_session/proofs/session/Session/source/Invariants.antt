@@ -1,5 +1,5 @@
 use Rattle.std.proofs.Common.{◌≡◌, ◌++◌, drop, flat_map}
-use Rattle.text_place.specs.Separators.{newline}
+use Rattle.plain_text.specs.Separators.{newline}
 use Rattle.edit_session.proofs.session.Session.source.Given as goal
 
 abbrev pub invariant-loop-line : goal.invariant-loop-line

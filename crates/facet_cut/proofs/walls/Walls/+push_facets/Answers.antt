@@ -1,5 +1,5 @@
 use Rattle.std.proofs.Common.{append-nil, sym}
-use Rattle.bsp_tree.proofs.SheetFaces.{face_is}
+use Rattle.bsp_tree.proofs.lemmas.SheetFaces.{face_is}
 use Rattle.facet_cut.proofs.Nodes.{end_facets}
 use Rattle.facet_cut.proofs.walls.Walls.+push_facets.Goals as goal
 

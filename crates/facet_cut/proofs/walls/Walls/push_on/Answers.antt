@@ -1,6 +1,6 @@
 use Rattle.std.proofs.Common.{List, sym, subst}
 use Rattle.plane_polygon.specs.Polygons.{Outline}
-use Rattle.bsp_tree.proofs.SheetFaces.{face_is}
+use Rattle.bsp_tree.proofs.lemmas.SheetFaces.{face_is}
 use Rattle.facet_cut.specs.Adding.{AddsFacetsWithin}
 use Rattle.facet_cut.proofs.RowFacets.{on_node}
 use Rattle.facet_cut.proofs.walls.Walls.push_on.Goals as goal

@@ -30,5 +30,5 @@ invariant_of-self g c =
       live = lives ∙ (ap (λ l. l ++ claim ∷ []) kept.live ∙ (sym (live_more log claim fresh) ∙ ap live_claims (sym logged)));
       count = omega (arith, kept.count, begun_more log (Begun claim), ap begin_count logged);
       room = omega (arith, kept.room, asked, ap length lives, length-append live (claim ∷ []), c.push_reserved.ensures.len, c.push_reserved.ensures.capacity);
-      few = omega (arith, kept.few, ap length lives, length-append live (claim ∷ []), begun_more log (Begun claim), ended_more log (Begun claim), ap begin_count logged, ap end_count logged);
+      all = omega (arith, kept.all, ap length lives, length-append live (claim ∷ []), begun_more log (Begun claim), ended_more log (Begun claim), ap begin_count logged, ap end_count logged);
     }

@@ -13,7 +13,7 @@ flights_of-requires-clause-begun g c =
     let many : length c.args.shares.items ≡ c.args.blanks.callers = ap length c.requires.shares ∙ opened_length c.args.blanks.callers in
     (omega (arith, many, c.open-begun.ensures.parts, c.requires.ledgers.0.1, c.args.blanks.cut.0), c.open-begun.ensures.amount)
 
-pub flights_of-requires-clause-ended : goal.flights_of-requires-clause-ended
-flights_of-requires-clause-ended g c =
+pub flights_of-requires-clause-held : goal.flights_of-requires-clause-held
+flights_of-requires-clause-held g c =
     let many : length c.args.shares.items ≡ c.args.blanks.callers = ap length c.requires.shares ∙ opened_length c.args.blanks.callers in
-    (omega (arith, many, c.open-ended.ensures.parts, c.requires.ledgers.1.1, c.args.blanks.cut.1), c.open-ended.ensures.amount)
+    (omega (arith, many, c.open-held.ensures.parts, c.requires.ledgers.1.1, c.args.blanks.cut.1), c.open-held.ensures.amount)

@@ -1,6 +1,6 @@
 use Rattle.std.proofs.Common.{[], ap, get_or, of_z, w64}
 use Rattle.int_transform.specs.Maps.{row_of}
-use Rattle.int_transform.proofs.Regular.{matrix_rows}
+use Rattle.int_transform.proofs.lemmas.Regular.{matrix_rows}
 use Rattle.int_transform.proofs.step.Step.matrix.Goals as goal
 
 pub invariant_of-result : goal.invariant_of-result

@@ -1,6 +1,6 @@
 use Rattle.std.proofs.Common.{rules, ◌≡◌, sym, ◌∙◌, subst, ap₂, to_z-of_z, FitsSigned, w64}
 use Rattle.int_transform.specs.Maps.{rotation_of, IsStep}
-use Rattle.int_transform.proofs.Regular.{rotation_is, rotation_is_step}
+use Rattle.int_transform.proofs.lemmas.Regular.{rotation_is, rotation_is_step}
 use Rattle.int_transform.proofs.step.Step.quarter.Goals as goal
 
 pub invariant_of-result : goal.invariant_of-result

@@ -1,5 +1,5 @@
 use Rattle.std.proofs.Common.{ap, get_or, of_z, pos, w64}
-use Rattle.int_transform.proofs.Regular.{scaled_is_step}
+use Rattle.int_transform.proofs.lemmas.Regular.{scaled_is_step}
 use Rattle.int_transform.proofs.step.Step.scale.Goals as goal
 
 pub invariant_of-result : goal.invariant_of-result

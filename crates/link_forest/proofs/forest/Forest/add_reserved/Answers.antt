@@ -1,6 +1,6 @@
 use Rattle.std.proofs.Common.{◌≡◌, length, ◌∙◌}
 use Rattle.link_forest.specs.Forests.{IsLinkOf, node_id}
-use Rattle.link_forest.proofs.Longer.{node_pushed}
+use Rattle.link_forest.proofs.lemmas.Longer.{node_pushed}
 use Rattle.link_forest.proofs.forest.Forest.add_reserved.Goals as goal
 
 pub returns-clause-adds : goal.returns-clause-adds

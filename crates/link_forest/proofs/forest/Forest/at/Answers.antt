@@ -1,5 +1,5 @@
 use Rattle.std.proofs.Common.{◌<◌, length}
-use Rattle.link_forest.proofs.Longer.{node_read}
+use Rattle.link_forest.proofs.lemmas.Longer.{node_read}
 use Rattle.link_forest.proofs.forest.Forest.at.Goals as goal
 
 pub returns : goal.returns

@@ -1,4 +1,4 @@
-use Rattle.link_forest.proofs.Longer.{cut_extends, cut_is, linked_before}
+use Rattle.link_forest.proofs.lemmas.Longer.{cut_extends, cut_is, linked_before}
 use Rattle.link_forest.proofs.forest.Forest.cut_back.Goals as goal
 
 pub returns-clause-kept : goal.returns-clause-kept

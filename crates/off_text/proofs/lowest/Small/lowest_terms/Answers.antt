@@ -1,6 +1,6 @@
 use Rattle.std.proofs.Common.{rules, ◌≡◌, ◌*ℤ◌, pos, unsigned_abs, ℕ, subst, to_z-of_z, FitsSigned}
 use Rattle.plane_predicate.specs.Space.{Coordinates}
-use Rattle.off_text.proofs.Factors.{divided_point}
+use Rattle.off_text.proofs.lemmas.Factors.{divided_point}
 use Prim.Native.Nat.{◌∣◌}
 use mir.Syntax.{w64, w128}
 use Rattle.off_text.proofs.lowest.Small.lowest_terms.Goals as goal

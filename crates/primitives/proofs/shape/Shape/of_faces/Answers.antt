@@ -1,7 +1,7 @@
 use Rattle.std.proofs.Common.{◌≡◌, ◌∙◌, sym, subst, arith}
 use Rattle.std.proofs.lemmas.List.{take_all}
 use Rattle.primitives.specs.Shapes.{IsShape, Mesh}
-use Rattle.primitives.proofs.ShapeBodies.{same_mesh, shape_of}
+use Rattle.primitives.proofs.lemmas.ShapeBodies.{same_mesh, shape_of}
 use Rattle.primitives.proofs.shape.Shape.of_faces.Goals as goal
 
 pub of-requires-2 : goal.of-requires-2

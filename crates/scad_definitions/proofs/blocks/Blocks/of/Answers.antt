@@ -6,7 +6,7 @@ use Rattle.scad_definitions.specs.Numbered.{are_entries_below}
 use Rattle.scad_definitions.specs.TextView.{function_of, module_of, names_of_function, names_of_module}
 use Rattle.scad_definitions.specs.Walk.{table_so_far}
 use Rattle.scad_definitions.proofs.Held.{mapped_length}
-use Rattle.scad_definitions.proofs.Numbered.{program_below}
+use Rattle.scad_definitions.proofs.lemmas.Numbered.{program_below}
 use Rattle.scad_definitions.proofs.Order.{program_order}
 use Rattle.scad_definitions.proofs.Walks.{whole_text}
 use Rattle.scad_definitions.proofs.blocks.Blocks.of.Goals as goal

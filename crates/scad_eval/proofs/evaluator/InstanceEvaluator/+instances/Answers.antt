@@ -1,6 +1,6 @@
 use Rattle.std.proofs.Common.{◌≡◌, ℕ, ◌+◌, ◌-◌, ◌<◌, Bool, true, false, ◌&&◌, nat_eq, List, [], ◌∷◌, ◌++◌, All, length, map, drop, Option, Some, None, Ok, Err, refl, sym, ap, subst, ◌∙◌, length-append, arith, if◌then◌else◌}
 use Rattle.std.proofs.lemmas.Result.{err_from_is_err_and, IfErr-at_err}
-use Rattle.text_place.specs.declared.fault.Place.{Place}
+use Rattle.plain_text.specs.declared.place.Place.{Place}
 use Rattle.text_place.specs.declared.fault.FaultKind.TheVariants.{TooDeep, TypeMismatch}
 use Rattle.csg_tree.specs.declared.op.Op.{Op}
 use Rattle.csg_tree.specs.declared.op.Op.TheVariants.{Union}
@@ -29,14 +29,14 @@ use Rattle.scad_func.specs.Definitions.{statements_at, block_scope, IsWholeTable
 use Rattle.scad_func.specs.Evaluations.{OneCallDeeper, MoreBindings, env_here, expression_context_in}
 use Rattle.scad_func.specs.Transitions.{IsRefusedCall}
 use Rattle.scad_func.specs.declared.source.Source.{Source}
-use Rattle.scad_instances.specs.declared.numbered.NumberedInstance.{NumberedInstance}
-use Rattle.scad_instances.specs.declared.position.NumberedBody.{NumberedBody}
-use Rattle.scad_instances.specs.declared.position.Position.{Position}
-use Rattle.scad_instances.specs.Choosing.{chosen_seen}
-use Rattle.scad_instances.specs.Items.{remaining_in}
-use Rattle.scad_instances.specs.Listing.{AreInstancesOf}
-use Rattle.scad_instances.specs.Positions.{term_of_numbered, HasBlocks}
-use Rattle.scad_instances.specs.Seen.{one_member_of, instance_design_of, member_designs_of}
+use Rattle.scad_instance_rules.specs.declared.numbered.NumberedInstance.{NumberedInstance}
+use Rattle.scad_instance_rules.specs.declared.position.NumberedBody.{NumberedBody}
+use Rattle.scad_instance_rules.specs.declared.position.Position.{Position}
+use Rattle.scad_instance_rules.specs.Choosing.{chosen_seen}
+use Rattle.scad_instance_rules.specs.Items.{remaining_in}
+use Rattle.scad_instance_rules.specs.Listing.{AreInstancesOf}
+use Rattle.scad_instance_rules.specs.Positions.{term_of_numbered, HasBlocks}
+use Rattle.scad_instance_rules.specs.Seen.{one_member_of, instance_design_of, member_designs_of}
 use Rattle.scad_meaning.specs.Verdicts.{Judge}
 use Rattle.scad_meaning.specs.Bodies.{is_child}
 use Rattle.scad_meaning.specs.Loops.{iterated_values}
@@ -46,9 +46,9 @@ use Rattle.scad_eval.specs.Keeping.{evaluator_at, env_at, context_at, Stays, Ent
 use Rattle.scad_eval.specs.declared.open_variable.OpenVariable.{OpenVariable}
 use Rattle.scad_eval.specs.Variables.{a_step}
 use Rattle.scad_eval.specs.Within.{body_seen, IsInstanceAt, IsModuleCall}
-use Rattle.scad_func.proofs.Kept.{keeps_same, keeps_trans, specials_kept, scope_kept}
+use Rattle.scad_func.proofs.lemmas.Kept.{keeps_same, keeps_trans, specials_kept, scope_kept}
 use Rattle.scad_eval.proofs.Work.{work_falls, work_same}
-use Rattle.scad_func.proofs.Counting.{call_refused, call_goes}
+use Rattle.scad_func.proofs.lemmas.Counting.{call_refused, call_goes}
 use Rattle.scad_eval.proofs.Counting.{design_too_deep, call_too_deep, turn_counted}
 use Rattle.scad_eval.proofs.Membership.{child_is_member, as_member_outcome, member_step, instances_here}
 use Rattle.scad_eval.proofs.Outcomes.{along, then_outcome, stop_outcome, only_no_memory, told_outcome, lengthened, lengthening_stops}

@@ -3,8 +3,8 @@ use Rattle.std.proofs.Common.{◌≡◌, ◌+◌, ◌*◌, map, drop}
 use Rattle.scad_ast.specs.StatementView.{binder_of}
 use Rattle.scad_meaning.specs.Verdicts.{Judge, IsRightJudge}
 use Rattle.scad_meaning.specs.Meaning.{each_member}
-use Rattle.scad_instances.specs.Positions.{term_of_numbered}
-use Rattle.scad_instances.specs.Seen.{member_designs_of, members_in_front}
+use Rattle.scad_instance_rules.specs.Positions.{term_of_numbered}
+use Rattle.scad_instance_rules.specs.Seen.{member_designs_of, members_in_front}
 use Rattle.scad_eval.specs.Keeping.{evaluator_at, context_at, Stays, outcome_at}
 use Rattle.scad_eval.specs.Within.{body_seen}
 use Rattle.scad_eval.proofs.Lasting.{loop_work}

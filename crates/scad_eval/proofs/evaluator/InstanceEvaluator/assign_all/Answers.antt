@@ -5,7 +5,7 @@ use Rattle.scad_meaning.specs.Meaning.{each_assignment}
 use Rattle.scad_eval.specs.Keeping.{evaluations_left, context_at}
 use Rattle.scad_eval.proofs.Binding.{assigned_next, assigned_stops}
 use Rattle.scad_eval.proofs.Outcomes.{along}
-use Rattle.scad_meaning.proofs.Judges.{some_judge}
+use Rattle.scad_meaning.proofs.lemmas.Judges.{some_judge}
 use Rattle.scad_eval.proofs.Contexts.{assigns_then, some_position}
 use Rattle.scad_eval.proofs.evaluator.InstanceEvaluator.assign_all.Goals as goal
 use Rattle.scad_func.specs.Limits.{most_evaluations}

@@ -1,7 +1,7 @@
 use Rattle.std.proofs.Common.{◌≡◌, map, drop}
 use Rattle.scad_definitions.specs.TextView.{source_assignment_of}
 use Rattle.scad_meaning.specs.Meaning.{each_assignment}
-use Rattle.scad_instances.specs.declared.position.Position.{Position}
+use Rattle.scad_instance_rules.specs.declared.position.Position.{Position}
 use Rattle.scad_eval.specs.Keeping.{evaluations_left, context_at, Assigns}
 use Rattle.scad_eval.proofs.evaluator.InstanceEvaluator.assign_all.Given as goal
 

@@ -2,7 +2,7 @@ use Rattle.std.proofs.Common.{refl}
 use Rattle.std.proofs.lemmas.Result.{err_from_is_err_and}
 use Rattle.scad_func.specs.Meaning.{Gives}
 use Rattle.scad_meaning.specs.Meaning.{with_leaf_of}
-use Rattle.scad_instances.specs.Seen.{instance_design_of}
+use Rattle.scad_instance_rules.specs.Seen.{instance_design_of}
 use Rattle.scad_eval.proofs.Outcomes.{along, then_outcome}
 use Rattle.scad_eval.proofs.Told.{stops}
 use Rattle.scad_eval.proofs.Leaving.{hull_checked}

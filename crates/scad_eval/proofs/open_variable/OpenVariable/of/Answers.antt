@@ -4,7 +4,7 @@ use Rattle.scad_value.specs.Values.{Vals}
 use Rattle.scad_value.specs.BoundedView.{bounded_val}
 use Rattle.scad_func.specs.Meaning.{Gives, then_with, or_fault}
 use Rattle.scad_meaning.specs.Loops.{iterated_values}
-use Rattle.scad_instances.specs.Items.{remaining_in}
+use Rattle.scad_instance_rules.specs.Items.{remaining_in}
 use Rattle.scad_eval.proofs.Bounds.{few_values}
 use Rattle.scad_eval.proofs.open_variable.OpenVariable.of.Goals as goal
 

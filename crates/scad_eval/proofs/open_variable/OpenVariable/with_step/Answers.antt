@@ -1,15 +1,15 @@
 use Rattle.std.proofs.Common.{◌≡◌, ℕ, ◌+◌, ◌<◌, true, false, List, [], ◌∷◌, map, length, nat_eq, refl, sym, ap, subst, ◌∙◌, arith}
 use Rattle.std.proofs.lemmas.Bool.Decides.{nat_tests}
-use Rattle.text_place.specs.declared.fault.Place.{Place}
+use Rattle.plain_text.specs.declared.place.Place.{Place}
 use Rattle.scad_design.specs.declared.design.Design.{Design}
 use Rattle.scad_design.specs.View.{plain_of}
 use Rattle.scad_func.specs.Limits.{most_turns}
 use Rattle.scad_func.specs.Meaning.{Gives}
 use Rattle.scad_func.specs.Evaluations.{KeepsEvaluation}
 use Rattle.scad_func.specs.declared.evaluation.Evaluation.{Evaluation}
-use Rattle.scad_instances.specs.Seen.{member_designs_of, members_in_front}
+use Rattle.scad_instance_rules.specs.Seen.{member_designs_of, members_in_front}
 use Rattle.scad_meaning.specs.Meaning.{MemberDesigns, counted_step, turn_after_step}
-use Rattle.scad_func.proofs.Kept.{keeps_same, keeps_trans}
+use Rattle.scad_func.proofs.lemmas.Kept.{keeps_same, keeps_trans}
 use Rattle.scad_eval.proofs.Counting.{turn_counted}
 use Rattle.scad_eval.proofs.open_variable.OpenVariable.with_step.Goals.{then-is_empty+in_ok-turn, else-is_empty}
 use Rattle.scad_eval.proofs.open_variable.OpenVariable.with_step.Goals as goal

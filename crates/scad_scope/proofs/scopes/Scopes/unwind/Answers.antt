@@ -2,7 +2,7 @@ use Rattle.std.proofs.Common.{ap, map, ◌∙◌}
 use Rattle.scad_definitions.specs.Names.{newest_first}
 use Rattle.scad_scope.specs.Names.{oldest_pairs}
 use Rattle.scad_scope.specs.View.{variable_seen}
-use Rattle.scad_scope.proofs.Chain.{oldest_part, oldest_seen}
+use Rattle.scad_scope.proofs.lemmas.Chain.{oldest_part, oldest_seen}
 use Rattle.scad_scope.proofs.scopes.Scopes.unwind.Goals as goal
 
 pub returns-clause-bindings : goal.returns-clause-bindings

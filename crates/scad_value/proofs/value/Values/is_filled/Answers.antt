@@ -1,5 +1,5 @@
 use Rattle.std.proofs.Common.{◌∙◌, ap, not}
-use Rattle.scad_value.proofs.Lists.{truth_out}
+use Rattle.scad_value.proofs.lemmas.Lists.{truth_out}
 use Rattle.scad_value.proofs.value.Values.is_filled.Goals as goal
 
 pub returns : goal.returns

@@ -1,0 +1,38 @@
+"""The words of the tools that write meshes, `off2stl` and `scad2stl`."""
+
+from __future__ import annotations
+
+import os
+import sys
+from argparse import Namespace
+
+from ..source.lengths import unit_argument
+from .words import Words
+
+#: The formats, as `solid.formats` writes them.
+FORMATS = ("stl", "binstl", "off", "obj", "3mf")
+#: The formats that no terminal shows.
+_BINARY = ("binstl", "3mf")
+
+
+def mesh_words(words: Words) -> None:
+    """The words that each tool takes which writes meshes."""
+    words.add_argument("--unit", type=unit_argument, metavar="U", help="how many millimetres a unit is: 1/10, 25.4; else 1")
+    words.add_argument("--exact-numbers", action="store_true", help="tell box and volume exactly, else to six figures")
+    words.add_argument("--format", choices=FORMATS, help="else the ending of OUT says it, or it is stl")
+
+
+def format_of(words: Words, asked: Namespace) -> str:
+    """The format that the words of a call ask for. Raises BadCall where they ask for none."""
+    to_file = asked.out not in (None, "-")
+    form: str = asked.format or (os.path.splitext(asked.out)[1][1:].lower() if to_file else "stl")
+    if form not in FORMATS:
+        words.error(f"the ending of {asked.out} is not a format: say --format")
+    if form in _BINARY and not to_file and asked.folder is None and sys.stdout.isatty():
+        words.error(f"{form} is not for a terminal: say -o OUT")
+    return form
+
+
+def ending_of(form: str) -> str:
+    """The ending of files in a format."""
+    return ".stl" if form == "binstl" else f".{form}"

@@ -1,2 +1,0 @@
--- Planes with the same numbers, for the crates above.
-pub use Rattle.plane_table.proofs.Planes.{same_equal, not_same}

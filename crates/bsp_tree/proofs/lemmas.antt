@@ -1,0 +1,19 @@
+-- Lemmas that this crate shares with those above it, which may import no others of its proofs.
+pub mod Opposites
+pub mod SameNumbers
+pub mod Convexity
+pub mod Openness
+pub mod PolygonsOfCells
+pub mod Sides
+pub mod Walks
+pub mod Complements
+pub mod Worlds
+pub mod Halves
+pub mod NearPoints
+pub mod Sheets
+pub mod Growths
+pub mod SheetFaces
+pub mod Wholes
+pub mod DividedWalks
+pub mod DividedHalves
+pub mod DividedPlanes

@@ -1,0 +1,3 @@
+-- Lemmas that this crate shares with those above it, which may import no others of its proofs.
+pub mod Sums
+pub mod Edges

@@ -1,0 +1,4 @@
+-- Lemmas that this crate shares with those above it, which may import no others of its proofs.
+pub mod Images
+pub mod Ranges
+pub mod Regular

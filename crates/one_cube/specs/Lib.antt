@@ -1,0 +1,2 @@
+-- One cube.
+pub mod Worked

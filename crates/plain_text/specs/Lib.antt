@@ -1,0 +1,3 @@
+pub mod Decimals
+pub mod Stored
+pub mod Separators

@@ -1,0 +1,22 @@
+-- Lemmas that this crate shares with those above it, which may import no others of its proofs.
+pub mod Bodies
+pub mod BoxBodies
+pub mod CornersBehind
+pub mod EndFaces
+pub mod Rectangles
+pub mod Grids
+pub mod PrismLists
+pub mod SidePlanes
+pub mod PrismBodies
+pub mod PrismPlanes
+pub mod Distinct
+pub mod FacePlanes
+pub mod Lists
+pub mod Moves
+pub mod OnePlane
+pub mod ShapeBodies
+pub mod Transforms
+pub mod ThroughCorners
+pub mod OuterPlanes
+pub mod Solids
+pub mod ConvexShapes

@@ -1,0 +1,2 @@
+-- Lemmas that this crate shares with those above it, which may import no others of its proofs.
+pub mod Numbered

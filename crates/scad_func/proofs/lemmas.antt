@@ -1,0 +1,5 @@
+-- Lemmas that this crate shares with those above it, which may import no others of its proofs.
+pub mod Kept
+pub mod Counting
+pub mod Outcomes
+pub mod GivenSeen

@@ -1,6 +1,0 @@
-use Rattle.std.proofs.Common.{◌≡◌, take}
-use Rattle.scad_meaning.specs.Loops.{items_numbered}
-use Rattle.scad_instances.proofs.chosen.by_numbers.Given as goal
-
-abbrev pub invariant-loop-number : goal.invariant-loop-number
-invariant-loop-number g l = l.found.items ≡ items_numbered l.children (take l.number-index l.numbers)
