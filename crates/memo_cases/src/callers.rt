@@ -186,31 +186,31 @@ fn run<
     K: Ledger + Send + Sync,
     E: Ledger + Send + Sync,
     Begins: Ledger + Send + Sync,
-    Ends: Ledger + Send + Sync,
+    Holds: Ledger + Send + Sync,
     R: Threads + Wait + Sync,
 >(
     rt: &R,
     alloc: Global,
     core: MemoCore<Pieces, LastDigits>,
     blanks: Blanks,
-    begun_and_ended: FlightBlanks,
+    claims: FlightBlanks,
     acts: (&[Act], &[Act]),
 ) -> Result<RunEnd, NoMemory>
     requires empty { core.journal ≡ [] }
     requires limits { (core.budget ≡ H.budget) × (core.share ≡ H.share)
         × (blanks.callers ≡ H.callers) }
-    requires callers { (blanks.callers ≡ 2) × (begun_and_ended.callers ≡ 2) }
+    requires callers { (blanks.callers ≡ 2) × (claims.callers ≡ 2) }
     requires memo { IsBlankLedger H.name H.parts blanks.hits × IsBlankLedger M.name M.parts blanks.misses
         × IsBlankLedger K.name K.parts blanks.kept × IsBlankLedger E.name E.parts blanks.heavy }
-    requires claims { IsBlankLedger Begins.name Begins.parts begun_and_ended.begun
-        × IsBlankLedger Ends.name Ends.parts begun_and_ended.ended }
+    requires claims { IsBlankLedger Begins.name Begins.parts claims.begun
+        × IsBlankLedger Holds.name Holds.parts claims.held }
     requires policy { (caller key : ℕ) → H.may_ask caller key }
 {
     // Nothing can fail between the claims' opening and their closing, so that no way out drops an open memo.
-    let (memo, shares) = Memo::<Pieces, LastDigits, FlightLedgers<H, M, K, E, Begins, Ends>>::open(
+    let (memo, shares) = Memo::<Pieces, LastDigits, FlightLedgers<H, M, K, E, Begins, Holds>>::open(
         alloc, core, blanks,
     )?;
-    let (flight, mut shares) = Flight::open(alloc, Pieces, memo, shares, begun_and_ended)?;
+    let (flight, mut shares) = Flight::open(alloc, Pieces, memo, shares, claims)?;
     let second = shares.pop().unwrap();
     let first = shares.pop().unwrap();
     let meeting = Meeting::new();
@@ -220,14 +220,14 @@ fn run<
         rt,
         move || -> (
             Vec<Answer>,
-            FlightShare<FlightLedgers<H, M, K, E, Begins, Ends>>,
+            FlightShare<FlightLedgers<H, M, K, E, Begins, Holds>>,
         )
             requires { (2 ≤ first.share.parts) × ((caller key : ℕ) → H.may_ask caller key) }
             ensures { result.1.share.parts ≡ first.share.parts }
         { do_acts(rt, alloc, shared, first, met, firsts) },
         move || -> (
             Vec<Answer>,
-            FlightShare<FlightLedgers<H, M, K, E, Begins, Ends>>,
+            FlightShare<FlightLedgers<H, M, K, E, Begins, Holds>>,
         )
             requires { (2 ≤ second.share.parts) × ((caller key : ℕ) → H.may_ask caller key) }
             ensures { result.1.share.parts ≡ second.share.parts }
@@ -255,13 +255,13 @@ fn two_callers<R: Threads + Wait + Sync>(
 ) -> Result<RunEnd, NoMemory> {
     let core = MemoCore::new(alloc, Pieces, LastDigits, limits.budget, limits.share)?;
     let blanks = Blanks::new(2);
-    let begun_and_ended = FlightBlanks::beside(&blanks);
+    let claims = FlightBlanks::beside(&blanks);
     run::<Brand, Brand, Brand, Brand, Brand, Brand, R>(
         rt,
         alloc,
         core,
         blanks,
-        begun_and_ended,
+        claims,
         acts,
     )
 }

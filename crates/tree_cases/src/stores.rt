@@ -5,11 +5,12 @@ use crate::written::{put_tree, sign_of};
 use bsp_boolean::{PlainBuilder, TreeStop, tree_solid};
 use case_lines::{CaseStop, found, put, put_number, put_stroked, unit_of};
 use csg_tree::{CsgNode, CsgStore, TreeKey};
+use export_limits::PassedLimit;
 use plane_predicate::Unit;
 use std::alloc::Global;
 use std::sync::Arc;
 use std::thread::Threads;
-use tree_export::{PassedLimit, TreeExport, export_tree};
+use tree_export::{TreeExport, export_tree};
 
 #[derive(Clone, Copy)]
 pub enum TreeAsking {

@@ -19,7 +19,7 @@ abbrev pub ghosts-run-E-Ledger : goal.ghosts-run-E-Ledger
 ghosts-run-E-Ledger g a = record { name = a.blanks.heavy.name; parts = a.blanks.heavy.parts }
 
 abbrev pub ghosts-run-Begins-Ledger : goal.ghosts-run-Begins-Ledger
-ghosts-run-Begins-Ledger g a = record { name = a.begun_and_ended.begun.name; parts = a.begun_and_ended.begun.parts }
+ghosts-run-Begins-Ledger g a = record { name = a.claims.begun.name; parts = a.claims.begun.parts }
 
-abbrev pub ghosts-run-Ends-Ledger : goal.ghosts-run-Ends-Ledger
-ghosts-run-Ends-Ledger g a = record { name = a.begun_and_ended.ended.name; parts = a.begun_and_ended.ended.parts }
+abbrev pub ghosts-run-Holds-Ledger : goal.ghosts-run-Holds-Ledger
+ghosts-run-Holds-Ledger g a = record { name = a.claims.held.name; parts = a.claims.held.parts }

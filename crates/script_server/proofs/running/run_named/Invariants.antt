@@ -25,4 +25,4 @@ abbrev pub ghosts-run_over-S-Ledger : goal.ghosts-run_over-S-Ledger
 ghosts-run_over-S-Ledger g a = record { name = a.claims.begun.name; parts = a.claims.begun.parts }
 
 abbrev pub ghosts-run_over-T-Ledger : goal.ghosts-run_over-T-Ledger
-ghosts-run_over-T-Ledger g a = record { name = a.claims.ended.name; parts = a.claims.ended.parts }
+ghosts-run_over-T-Ledger g a = record { name = a.claims.held.name; parts = a.claims.held.parts }
