@@ -182,7 +182,7 @@ Each script prints its results; the comment at its head says how it measures.
 | `sh bench/intern.sh` | the time to make a store of 64, 256 and 1,024 leaves |
 | `sh bench/modules.sh`, `sh bench/names.sh` | the time of calls of modules, and of sources with many names, and how it grows |
 | `sh bench/hull.sh` | the time of hulls of 8, 32 and 128 points |
-| `sh bench/solids.sh`, `sh bench/facets.sh` | the time and the size of unions and plates; facets and bytes of text in a second |
+| `sh bench/solids.sh`, `sh bench/facets.sh` | time and size of unions and plates; facets and bytes of text in a second |
 | `sh bench/sharing.sh` | what eight clients gain by more processors, and a repeated export by the memo |
 | `sh bench/parallel.sh` | the time of 1,024 parts by one call of `scad2off`, and by GNU parallel if it is installed |
 """
