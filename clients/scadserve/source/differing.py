@@ -310,14 +310,27 @@ def _special_to_join(found: Found) -> Iterator[int]:
 
 def _marked_check(found: Found) -> Iterator[int]:
     for it in found.structure.instances:
-        if b"!" in found.marks(it) and not _is_under_mark(found, it):
-            is_none = found.is_check(it) or (found.text(it.core) == b"if" and not it.has_else) or _is_missing(found, it)
-            if is_none or (_is_by_index(found, it) and not _is_all(found, it)):
+        is_none = found.is_check(it) or (found.text(it.core) == b"if" and not it.has_else) or _is_missing(found, it)
+        if is_none and _selects(found, it) and not _is_by_index(found, it):
+            yield next(at for at in range(it.first, it.core) if found.text(at) == b"!")
+
+
+def _marked_index(found: Found) -> Iterator[int]:
+    for it in found.structure.instances:
+        if _is_by_index(found, it) and b"*" not in found.marks(it):
+            if b"%" in found.marks(it):
+                yield it.first
+            elif _selects(found, it) and not _is_all(found, it):
                 yield next(at for at in range(it.first, it.core) if found.text(at) == b"!")
 
 
+def _selects(found: Found, it: Instance) -> bool:
+    """Whether an instance is marked `!`, and none around it is, whose mark counts in its place."""
+    return b"!" in found.marks(it) and not _is_under_mark(found, it)
+
+
 def _is_under_mark(found: Found, it: Instance) -> bool:
-    """Whether an instance around it is marked `!`, which counts in its place."""
+    """Whether an instance around it is marked `!`."""
     around = it.around
     while around is not None and b"!" not in found.marks(around):
         around = around.around
@@ -325,10 +338,10 @@ def _is_under_mark(found: Found, it: Instance) -> bool:
 
 
 def _is_by_index(found: Found, it: Instance) -> bool:
-    """Whether it is a call of `children` with an index, which in OpenSCAD is that child itself, with the child's own marks. (A
-    list or a range of indexes makes a node that has the marks of the call.)"""
+    """Whether it is a call of `children` with an index, in a module: in OpenSCAD it is that child itself, with the child's own
+    marks. (A list or a range of indexes makes a node that has the marks of the call.)"""
     given = it.call.arguments if it.call is not None and found.is_built_in(it, b"children") else []
-    return bool(given) and found.text(given[0].first) != b"["
+    return bool(given) and found.text(given[0].first) != b"[" and found.module_around(it.core) is not None
 
 
 def _is_all(found: Found, it: Instance) -> bool:
@@ -535,6 +548,7 @@ FORMS: Mapping[str, Callable[[Found], Iterable[int]]] = {
     "children-counted": _children_counted,
     "special-to-join": _special_to_join,
     "marked-check": _marked_check,
+    "marked-index": _marked_index,
     "marked-background": _marked_background,
     "polygon-twice": _polygon_twice,
     "unused-points": _unused_points,
