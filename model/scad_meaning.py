@@ -258,7 +258,7 @@ def each_in_scope(evaluator: Evaluator, here: Context, statements: StatementTerm
 
 
 def evaluates_nothing(statements: StatementTerms) -> bool:
-    """A body in which nothing is evaluated, so that it gives nothing: that is told at once, for loops may have 100,000 turns."""
+    """A body in which nothing is evaluated. That it gives nothing is told at once: loops may have 100,000 turns."""
     return not assignments_of(statements) and not evaluated_instances(statements)
 
 
