@@ -25,7 +25,9 @@ class Affine(NamedTuple):
 
 
 def row_at(r: Row, p: Coordinates) -> int:
-    return r.a * p.x + r.b * p.y + r.c * p.z + r.d * p.w
+    a, b, c, d = r
+    x, y, z, w = p
+    return a * x + b * y + c * z + d * w
 
 
 def image(m: Affine, p: Coordinates) -> Coordinates:

@@ -26,12 +26,15 @@ class Coefficients(NamedTuple):
 
 def value(m: Coefficients, p: Coordinates) -> int:
     """Below 0 behind the plane, 0 on it, above 0 ahead of it."""
-    return m.a * p.x + m.b * p.y + m.c * p.z - m.d * p.w
+    a, b, c, d = m
+    x, y, z, w = p
+    return a * x + b * y + c * z - d * w
 
 
 def opposite_of(m: Coefficients) -> Coefficients:
     """The same points, seen from the other side."""
-    return Coefficients(-m.a, -m.b, -m.c, -m.d)
+    a, b, c, d = m
+    return Coefficients(-a, -b, -c, -d)
 
 
 def inner_product(m: Coefficients, n: Coefficients) -> int:
@@ -53,10 +56,11 @@ def point_at(p: list[int]) -> Coordinates:
 
 def plane_of_points(p: Coordinates, q: Coordinates, r: Coordinates) -> Coefficients:
     """The plane through three points whose w is 1, with the direction (q - p) x (r - p)."""
-    a = minor(q.y - p.y, q.z - p.z, r.y - p.y, r.z - p.z)
-    b = minor(q.z - p.z, q.x - p.x, r.z - p.z, r.x - p.x)
-    c = minor(q.x - p.x, q.y - p.y, r.x - p.x, r.y - p.y)
-    return Coefficients(a, b, c, a * p.x + b * p.y + c * p.z)
+    (x, y, z, _), (qx, qy, qz, _), (rx, ry, rz, _) = p, q, r
+    a = minor(qy - y, qz - z, ry - y, rz - z)
+    b = minor(qz - z, qx - x, rz - z, rx - x)
+    c = minor(qx - x, qy - y, rx - x, ry - y)
+    return Coefficients(a, b, c, a * x + b * y + c * z)
 
 
 def is_directed(m: Coefficients) -> bool:

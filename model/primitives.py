@@ -35,7 +35,10 @@ def points_of_faces(mesh: Mesh) -> list[Coordinates]:
 
 def has_none_ahead(m: Coefficients, points: Sequence[Coordinates]) -> bool:
     a, b, c, d = m
-    return all(a * x + b * y + c * z <= d * w for x, y, z, w in points)
+    for x, y, z, w in points:
+        if a * x + b * y + c * z > d * w:
+            return False
+    return True
 
 
 def plane_of_face(mesh: Mesh, face: Sequence[int], points: Sequence[Coordinates]) -> Coefficients | None:
@@ -45,8 +48,8 @@ def plane_of_face(mesh: Mesh, face: Sequence[int], points: Sequence[Coordinates]
     if triangle is None:
         return None
     m = reduced(plane_of_points(*triangle))
-    turned = [n for n in (m, opposite_of(m)) if has_none_ahead(n, points)]
-    return turned[0] if turned and all(value(m, p) == 0 for p in corners) else None
+    turned = next((n for n in (m, opposite_of(m)) if has_none_ahead(n, points)), None)
+    return turned if all(value(m, p) == 0 for p in corners) else None
 
 
 def is_point_in_range(p: Sequence[int]) -> bool:

@@ -3,6 +3,7 @@
 from __future__ import annotations
 
 import re
+from functools import lru_cache
 from typing import NamedTuple
 
 from .text_place import Fault, Place, least_too_large
@@ -90,45 +91,56 @@ def bytes_written(inside: bytes) -> bytes:
     return bytes(written)
 
 
-def word_meaning(kind: str, word: bytes, at: Place) -> Token:
-    """The token that a word makes at a place, which is no blank."""
+@lru_cache(maxsize=1 << 12)
+def class_and_value(kind: str, word: bytes) -> tuple[str, int | bytes]:
+    """The class of the token that a word makes, which is no blank, and its number or bytes. (Most words come again.)"""
     if kind == "Name":
         name = word.decode("ascii")
-        return Token(name if name in reserved else name_class, at, word)
+        return name if name in reserved else name_class, word
     if kind == "Symbol":
-        return Token(word.decode("ascii"), at, word)
+        return word.decode("ascii"), word
     if kind == "Numeral":
-        return Token(numeral_class, at, numeral_meaning(word))
+        return numeral_class, numeral_meaning(word)
     if kind == "Text":
-        return Token(text_class, at, bytes_written(word[1:-1]))
+        return text_class, bytes_written(word[1:-1])
     if kind == "Special":
-        return Token(child_count_class if word == b"$children" else special_class, at, word[1:])
+        return child_count_class if word == b"$children" else special_class, word[1:]
     if kind == "AndLetter":
-        return Token(numeral_class, at, letter_after_numeral(word))
+        return numeral_class, letter_after_numeral(word)
     raise BadWord({"UnclosedComment": "OpenComment", "UnclosedText": "OpenText"}[kind], 0)
+
+
+def word_meaning(kind: str, word: bytes, at: Place) -> Token:
+    """The token that a word makes at a place, which is no blank."""
+    its_class, value = class_and_value(kind, word)
+    return Token(its_class, at, value)
 
 
 def place_after(place: Place, word: bytes) -> Place:
     """The place behind these bytes: a newline begins a line."""
     newlines = word.count(b"\n")
-    if not newlines:
-        return Place(place.line, place.column + len(word))
-    return Place(place.line + newlines, len(word) - word.rindex(b"\n"))
+    column = place.column + len(word) if not newlines else len(word) - word.rindex(b"\n")
+    return Place(place.line + newlines, column)
 
 
 def lexes(text: bytes) -> list[Token]:
     """What a whole source gives: its tokens, or its first fault."""
-    tokens, at, offset = [], Place(1, 1), 0
+    tokens, offset = [], 0
+    last, last_offset = Place(1, 1), 0  # (a place on the line at hand: blanks alone have newlines)
     for found in word_of_bytes.finditer(text):
-        if found.start() != offset:
+        start, end = found.span()
+        if start != offset:
             break
-        kind, word = str(found.lastgroup), found.group()
+        kind, word, offset = str(found.lastgroup), found[0], end
         if kind != "Blank":
+            at = Place(last.line, last.column + start - last_offset)
             try:
                 tokens.append(word_meaning(kind, word, at))
             except BadWord as bad:
                 raise Fault(bad.kind, place_after(at, word[:bad.before])) from None
-        at, offset = place_after(at, word), found.end()
+        elif b"\n" in word:
+            last, last_offset = place_after(last, text[last_offset:end]), end
+    at = place_after(last, text[last_offset:offset])
     if offset < len(text):
         raise Fault("BadCharacter", at)
     return [*tokens, Token(end_class, at, b"")]

@@ -89,7 +89,7 @@ def flat_points(half: bool, call: SquareCall | PolygonCall | CircleCall) -> Poin
 
 
 def has_modifier(instance: InstanceTerm, modifiers: str) -> bool:
-    return any(mark.modifier in modifiers for mark in instance.marks)
+    return bool(instance.marks) and any(mark.modifier in modifiers for mark in instance.marks)
 
 
 @once
@@ -257,10 +257,14 @@ def each_in_scope(evaluator: Evaluator, here: Context, statements: StatementTerm
     return each_member(evaluator, there, evaluated_instances(statements))
 
 
+def evaluates_nothing(statements: StatementTerms) -> bool:
+    """A body in which nothing is evaluated. That it gives nothing is told at once: loops may have 100,000 turns."""
+    return not assignments_of(statements) and not evaluated_instances(statements)
+
+
 def body_design(evaluator: Evaluator, op: str, here: Context, body: BodyTerm) -> InstanceDesign:
-    """A body's members in a new scope inside where it stands, joined by an operation. Where nothing is evaluated, that is
-    told at once: loops may have 100,000 turns."""
-    if not assignments_of(body.statements) and not evaluated_instances(body.statements):
+    """A body's members in a new scope inside where it stands, joined by an operation."""
+    if evaluates_nothing(body.statements):
         return no_design
     scope = entered_scope(body.statements, None, here.env)
     return joined_members(op, each_in_scope(evaluator, inside_scope(here, scope), body.statements))
@@ -341,6 +345,8 @@ def module_design(evaluator: Evaluator, here: Context, call: ModuleCallTerm, fou
     turn(call.at, evaluator.counts)
     there = with_bindings(with_calls_left(here, calls), given.dynamic)
     values = each_parameter(expression_context(evaluator, inside_scope(there, scope)), module.params, given.bound)
+    if evaluates_nothing(module.body.statements):
+        return no_design
     inside = module_scope(scope, module, values, Activation(call.body.statements, here.env))
     return joined_members("union", each_in_scope(evaluator, inside_scope(there, inside), module.body.statements))
 
@@ -368,7 +374,7 @@ def children_design(evaluator: Evaluator, here: Context, chosen: list[int] | Ran
     """The chosen children of the enclosing call, in a new scope inside its caller's, with the assignments of their body.
     Where all are wanted, the body is evaluated as any other one, with its `echo`s and `assert`s."""
     call = activation_in(here.env)
-    if call is None:
+    if call is None or evaluates_nothing(call.children):
         return no_design
     there = inside_scope(here, entered_scope(call.children, None, call.caller))
     there = each_assignment(evaluator, there, call.children)

@@ -5,6 +5,7 @@ from __future__ import annotations
 
 import sys
 import threading
+from functools import lru_cache
 from typing import Callable, Sequence, TypeVar, Union
 
 from .csg_tree import Tree
@@ -65,8 +66,9 @@ def source_fault_words(fault: Fault) -> Reply:
     return f" fault {fault.at.line}:{fault.at.column} {fault.kind}\n".encode()
 
 
+@lru_cache(maxsize=1 << 10)
 def export_reply(half: bool, source: bytes) -> Reply:
-    """What an export is answered: its fault, or that it is a solid."""
+    """What an export is answered: its fault, or that it is a solid. (Many exports of a script are of one source.)"""
     meaning = means(half, source)
     return source_fault_words(meaning) if isinstance(meaning, Fault) else b" solid\n"
 

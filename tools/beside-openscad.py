@@ -46,8 +46,11 @@ from model.script_reader import ScriptFault, script_of  # noqa: E402
 from model.script_server import client_text, means_design, with_deep_stack  # noqa: E402
 from model.text_place import Fault  # noqa: E402
 from scadserve.openscad.reader import CsgFault, Node, read  # noqa: E402
+from scadserve.source.differing import Found  # noqa: E402
 from scadserve.source.notes import notes_of  # noqa: E402
 from scadserve.source.reading import source_of  # noqa: E402
+from scadserve.source.structure import structure_of  # noqa: E402
+from scadserve.source.tokens import tokens as tokens_of  # noqa: E402
 from tests import csg_points  # noqa: E402
 from tests.case_rows import rows, spelled  # noqa: E402
 
@@ -363,7 +366,15 @@ def evaluated_forms(source: bytes) -> list[str]:
     kinds = [token.kind for token in lexes(source)]
     definitions = [at for at, kind in enumerate(kinds) if kind in ("module", "function")]
     has_default = any("=" in kinds[at:kinds.index(")", at)] for at in definitions)
-    return ["marked-background"] * may_be_marked(source, "%") + ["default-given"] * has_default
+    found = ["marked-background"] * may_be_marked(source, "%") + ["default-given"] * has_default
+    return found + ["braces-unasked"] * assigns_in_braces(source)
+
+
+def assigns_in_braces(source: bytes) -> bool:
+    """Whether the braces of a call of a module of the source assign something."""
+    found = Found(structure_of(tokens_of(source_of(source, "-").sent())))
+    calls = (it for it in found.structure.instances if found.meant(it.call) is not None)
+    return any(found.assignments_of(it.scope) for it in calls)
 
 
 def forms_of(outcome: Outcome) -> list[str]:

@@ -29,7 +29,8 @@ sys.path[:0] = [TOP, os.path.join(TOP, "clients")]
 
 from model import chance as made_by  # noqa: E402
 from model.csg_tree import Tree, holds, is_boundary_at, is_on_one_face_plane, nothing, planes_of, sides_of  # noqa: E402
-from model.plane_predicate import Coordinates, in_steps, opposite_of, value  # noqa: E402
+from model.plane_predicate import Coefficients, Coordinates, in_steps, opposite_of, value  # noqa: E402
+from model.primitives import distinct_planes  # noqa: E402
 from model.script_server import means, with_deep_stack  # noqa: E402
 from model.text_place import Fault as ModelFault  # noqa: E402
 from scadserve import server  # noqa: E402
@@ -81,13 +82,16 @@ def answered(program: Sequence[str], half: bool, sources: Sequence[bytes]) -> li
     return [answers[name][at] for name, at in asked]
 
 
-def in_general_position(tree: Tree, chance: Random, low: Sequence[float], high: Sequence[float]) -> Coordinates:
-    """A point by chance in a box that is on no plane of the tree."""
+Planes = Sequence[Coefficients]
+
+
+def in_general_position(planes: Planes, chance: Random, low: Sequence[float], high: Sequence[float]) -> Coordinates:
+    """A point by chance in a box that is on none of these planes."""
     while True:
         w = chance.choice((997, 1009, 1013, 1019))
         x, y, z = (chance.randrange(math.floor(a * w), math.ceil(b * w) + 1) for a, b in zip(low, high))
         point = Coordinates(x, y, z, w)
-        if all(value(m, point) != 0 for m in planes_of(tree)):
+        if all(value(m, point) != 0 for m in planes):
             return point
 
 
@@ -100,12 +104,12 @@ def face_point(boundary: fouroff.Boundary, face: Sequence[int], chance: Random) 
     return Coordinates(x, y, z, below * sum(weights))
 
 
-def wrong_face(tree: Tree, half: bool, boundary: fouroff.Boundary, at: int, chance: Random) -> str | None:
+def wrong_face(tree: Tree, planes: Planes, half: bool, boundary: fouroff.Boundary, at: int, chance: Random) -> str | None:
     """Why a face is not where the tree ends: it is tested at a point that is on exactly one plane of the tree, where one is
     found."""
     for _ in range(4):
         point = in_steps(half, face_point(boundary, boundary.faces[at], chance))
-        on = [m for m in planes_of(tree) if value(m, point) == 0]
+        on = [m for m in planes if value(m, point) == 0]
         if not on:
             return f"face {at} is on no plane of the tree"
         outwards = sum(a * b for a, b in zip(on[0][:3], boundary.planes[at][:3])) > 0
@@ -115,7 +119,8 @@ def wrong_face(tree: Tree, half: bool, boundary: fouroff.Boundary, at: int, chan
     return None
 
 
-def wrong_point(tree: Tree, half: bool, boundary: fouroff.Boundary, crossings: Crossings, chance: Random) -> str | None:
+def wrong_point(tree: Tree, planes: Planes, half: bool, boundary: fouroff.Boundary, crossings: Crossings,
+                chance: Random) -> str | None:
     """Why a point by chance is inside the one and outside the other: near a corner of the text or a plane of the tree, or
     anywhere in a box round the text."""
     steps = 2 if half else 1
@@ -124,7 +129,7 @@ def wrong_point(tree: Tree, half: bool, boundary: fouroff.Boundary, crossings: C
         *xyz, w = chance.choice(boundary.corners)
         centre = [steps * n // w for n in xyz]
     reach = chance.choice((1, 1, 3, 10))
-    point = in_general_position(tree, chance, [it - reach for it in centre], [it + reach for it in centre])
+    point = in_general_position(planes, chance, [it - reach for it in centre], [it + reach for it in centre])
     told = crossings.place([Fraction(n, point.w * steps) for n in point[:3]])
     if told == ON:
         return f"{tuple(point)} is on a face and on no plane of the tree"
@@ -136,11 +141,11 @@ def wrong_solid(tree: Tree, half: bool, solid: server.Solid, chance: Random) -> 
     boundary = fouroff.read(solid.text)
     if tree is nothing:
         return None if not boundary.faces else "the text has faces, and the tree is nothing"
-    crossings = Crossings(boundary)
+    crossings, planes = Crossings(boundary), distinct_planes(planes_of(tree))
     faces = chance.sample(range(len(boundary.faces)), min(FACES, len(boundary.faces)))
     try:
-        found = [wrong_face(tree, half, boundary, at, chance) for at in faces]
-        found += [wrong_point(tree, half, boundary, crossings, chance) for _ in range(POINTS)]
+        found = [wrong_face(tree, planes, half, boundary, at, chance) for at in faces]
+        found += [wrong_point(tree, planes, half, boundary, crossings, chance) for _ in range(POINTS)]
     except NoBoundary as fault:
         return str(fault)
     return next((it for it in found if it is not None), None)

@@ -1,5 +1,6 @@
 """Tests of tools/beside-openscad.py: the meaning, run from its definitions, beside what OpenSCAD evaluates."""
 
+import importlib.util
 import os
 import re
 import shutil
@@ -8,13 +9,25 @@ import subprocess
 import sys
 import unittest
 from fractions import Fraction
+from functools import lru_cache
+from unittest.mock import patch
 
 from scadserve.openscad import reader
+from scadserve.source.differences import forms
 from tests import csg_points
 from tests.calls import TOP, Calls
 from tests.needs import needs
 
 LAST = re.compile(r"(\d+) sources compared, (\d+) differ, (\d+) of them in no form of docs/differences.txt\n\Z")
+
+
+@lru_cache(maxsize=None)
+def tool():
+    """The tool as a module."""
+    spec = importlib.util.spec_from_file_location("beside_openscad", os.path.join(TOP, "tools", "beside-openscad.py"))
+    found = importlib.util.module_from_spec(spec)
+    spec.loader.exec_module(found)
+    return found
 
 
 class Points(unittest.TestCase):
@@ -77,6 +90,28 @@ class Beside(Calls):
         last = LAST.search(done.stdout)
         self.assertIsNotNone(last, done.stdout + done.stderr)
         return done.returncode, done.stdout, *map(int, last.groups())
+
+    def test_each_row_of_the_list_differs_and_stands_in_its_form(self):
+        listed = [(form.name, row) for form in forms() for row in form.rows]
+        # (more points than by default: a small part that differs is not to be missed by chance)
+        with patch.object(tool(), "POINTS", 200):
+            found = tool().batch([tool().Case(row.source.encode() + b"\n") for _, row in listed])
+        for (name, row), (outcome, names) in zip(listed, found):
+            with self.subTest(row.source):
+                self.assertTrue(outcome.differs, outcome.how)
+                self.assertIn(name, names)
+
+    def test_bodies_by_chance_that_once_stood_in_no_form(self):
+        """Marks before `children` with an index, and assignments in the braces of a call that asks for no child."""
+        sources = (
+            "cube(3); module m(a) !children(0); m(a=7) union(){*!cube();}",
+            "module m() difference(){children(); !children($children-1);} m() {cube(3); translate([2, 2, 2]) cube(3);}",
+            "cube(3); module m() {%children(0);} m() {translate([5, 0, 0]) cube(1); cube(9);}",
+            "function f() = f(); module m() cube(2); m() {a = f();}",
+        )
+        found = tool().batch([tool().Case(it.encode() + b"\n", is_body=True) for it in sources])
+        self.assertTrue(all(outcome.differs for outcome, _ in found))
+        self.assertEqual([names for _, names in found], [*3 * [["marked-index"]], ["braces-unasked"]])
 
     def test_a_sample(self):
         status, printed, compared, differ, unlisted = self.compared("--rows", "60", "--chance", "1", "--seed", "5")

@@ -29,7 +29,7 @@ def box(boundary: Boundary) -> list[tuple[Fraction, Fraction]]:
     """The least and the greatest x, y and z of the corners, in units; of at least one corner."""
     ranges = []
     for axis in range(3):
-        places = {Fraction(corner[axis], corner[3]) for corner in boundary.corners}
+        places = {Fraction(*it) for it in {(corner[axis], corner[3]) for corner in boundary.corners}}
         ranges.append((min(places), max(places)))
     return ranges
 

@@ -55,9 +55,13 @@ class Found:
         """Whether it is an `echo` or an `assert`."""
         return self.is_built_in(it, *CHECKS)
 
+    def is_drawn(self, it: Instance) -> bool:
+        """Whether it is neither a check nor left out by a mark of its own."""
+        return not self.is_check(it) and not {b"*", b"%"} & set(self.marks(it))
+
     def children(self, it: Instance) -> list[Instance]:
         """The children of an instance: those that are checks, or that a mark leaves out, are none."""
-        return [child for child in it.children if not self.is_check(child) and not {b"*", b"%"} & set(self.marks(child))]
+        return list(filter(self.is_drawn, it.children))
 
     def arguments(self, call: Call) -> Iterator[tuple[bytes, Span]]:
         """The arguments of a call: the name of each, empty where it has none, and the tokens of its value."""
@@ -307,8 +311,53 @@ def _special_to_join(found: Found) -> Iterator[int]:
 def _marked_check(found: Found) -> Iterator[int]:
     for it in found.structure.instances:
         is_none = found.is_check(it) or (found.text(it.core) == b"if" and not it.has_else) or _is_missing(found, it)
-        if is_none and b"!" in found.marks(it):
+        if is_none and _selects(found, it) and not _is_by_index(found, it):
             yield next(at for at in range(it.first, it.core) if found.text(at) == b"!")
+
+
+def _marked_index(found: Found) -> Iterator[int]:
+    for it in found.structure.instances:
+        if _is_by_index(found, it) and b"*" not in found.marks(it):
+            if b"%" in found.marks(it):
+                yield it.first
+            elif _selects(found, it) and not _is_all(found, it):
+                yield next(at for at in range(it.first, it.core) if found.text(at) == b"!")
+
+
+def _selects(found: Found, it: Instance) -> bool:
+    """Whether an instance is marked `!`, and none around it is, whose mark counts in its place."""
+    return b"!" in found.marks(it) and not _is_under_mark(found, it)
+
+
+def _is_under_mark(found: Found, it: Instance) -> bool:
+    """Whether an instance around it is marked `!`."""
+    around = it.around
+    while around is not None and b"!" not in found.marks(around):
+        around = around.around
+    return around is not None
+
+
+def _is_by_index(found: Found, it: Instance) -> bool:
+    """Whether it is a call of `children` with an index, in a module: in OpenSCAD it is that child itself, with the child's own
+    marks. (A list or a range of indexes makes a node that has the marks of the call.)"""
+    given = it.call.arguments if it.call is not None and found.is_built_in(it, b"children") else []
+    return bool(given) and found.text(given[0].first) != b"[" and found.module_around(it.core) is not None
+
+
+def _is_all(found: Found, it: Instance) -> bool:
+    """Whether nothing is drawn but an instance: it is all of the program or of its module's body, and so is the only call of
+    this module."""
+    seen: list[Definition | None] = []
+    while it.around is None:
+        module = found.module_around(it.core)
+        beside = [other for other in found.structure.instances if other.around is None and found.is_drawn(other)]
+        is_alone = all(other is it or found.module_around(other.core) is not module for other in beside)
+        calls = found.calls_to.get(id(module), [])
+        if module is None or module in seen or not is_alone or len(calls) != 1:
+            return module is None and is_alone
+        seen.append(module)
+        it = calls[0]
+    return False
 
 
 def _marked_background(found: Found) -> Iterator[int]:
@@ -499,6 +548,7 @@ FORMS: Mapping[str, Callable[[Found], Iterable[int]]] = {
     "children-counted": _children_counted,
     "special-to-join": _special_to_join,
     "marked-check": _marked_check,
+    "marked-index": _marked_index,
     "marked-background": _marked_background,
     "polygon-twice": _polygon_twice,
     "unused-points": _unused_points,
