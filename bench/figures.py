@@ -86,13 +86,8 @@ def clients_table(text: str) -> list[str]:
     ]
 
 
-def worst_table(text: str) -> list[str]:
-    """The rows of bench/worst.sh, which are those of a table."""
-    return [it for it in text.splitlines() if it.startswith("|")]
-
-
-def maker_table(text: str) -> list[str]:
-    """The rows of bench/maker.py."""
+def printed_table(text: str) -> list[str]:
+    """The rows of a measurement that prints a table."""
     return [it for it in text.splitlines() if it.startswith("|")]
 
 
@@ -147,7 +142,7 @@ SECTIONS = (
         "`sh bench/worst.sh --largest` times sources that are made to cost much, with one worker, by the clock, and has "
         "the largest of each family. The growth is the exponent by which the seconds grow with n, from the size before. "
         "RECIPES says how a service [sets limits](RECIPES.md#a-service-under-limits) to what a source takes.",
-        worst_table,
+        printed_table,
     ),
     Section(
         "maker",
@@ -155,7 +150,16 @@ SECTIONS = (
         "What do a maker's parts take?",
         "`python3 bench/maker.py` makes ten parts of a maker's kind from OpenSCAD's sources, compares box and volume "
         "with OpenSCAD's own, and times both by the clock.",
-        maker_table,
+        printed_table,
+    ),
+    Section(
+        "tiles",
+        ("python3", "bench/tiles.py", "growth", "--jobs", "1"),
+        "What do designs by tiles take, and how does it grow?",
+        "`python3 bench/tiles.py growth --jobs 1` makes squares full of balls with bores, of 2 to 96 balls, "
+        "[by tiles](OPENSCAD.md#any-size-by-tiles). Seconds are of processors: to cut the design into pieces, to make the "
+        "tiles of the pieces by the server and read their texts, and to join these.",
+        printed_table,
     ),
 )
 
@@ -175,7 +179,8 @@ Each script prints what it measures, and says at its head how.
 | `sh bench/series.sh` | instructions and memory of solids, facets and texts, and how they grow |
 | `sh bench/geometry.sh` | how many sides and cuts a second are made, beside the same sums in plain Rust (it needs `rustc`) |
 | `tools/compare-openscad.py` | the seconds of parts by both, as [OPENSCAD.md](OPENSCAD.md#compared-with-openscad) has them |
-| `python3 bench/tiles.py` | the seconds of designs by tiles, and how they grow |
+| `python3 bench/tiles.py sizes` | the seconds of two designs by tiles of several sizes |
+| `python3 bench/tiles.py chance` | whether designs by chance are the same by two sizes of tiles, and as one source |
 | `sh bench/memo.sh` | how many probes and fills a second the memo takes at 64, 512 and 4,096 entries |
 | `sh bench/syntax.sh` | how many bytes a second are lexed and parsed, of ordinary and of dense sources |
 | `sh bench/functions.sh` | how many calls of a recursive function and indexes of a list are evaluated a second |
