@@ -1,10 +1,10 @@
-"""Writes docs/FIGURES.md: runs the measurements of this folder, keeps what they print, and makes the tables and the plots of
-it.
+"""Writes docs/FIGURES.md: runs the measurements of this folder, keeps their output, and makes tables and plots of it.
 
     sh bench/figures.sh [--from FOLDER] [NAME..]
 
-Each measurement is a script that prints lines. What it printed is kept in a file of its name, below a head with the machine,
-the date and the commit. A section of the page has the head, and a table of the lines. """
+Each measurement is a script that prints lines. Its output is kept in a file of its name, below a head with the machine, the
+date and the commit. A section of the page has the head, and a table of the lines.
+"""
 
 from __future__ import annotations
 
@@ -26,7 +26,7 @@ PAGE, PEERS, GROWTH = "docs/FIGURES.md", "docs/peers.svg", "docs/growth.svg"
 
 
 class Failed(Exception):
-    """A measurement that ended otherwise than well, or that printed no line of its table."""
+    """A measurement that failed, or that printed no line of its table."""
 
 
 class Peer(NamedTuple):
@@ -106,90 +106,90 @@ SECTIONS = (
     Section(
         "peers",
         ("sh", "bench/peers.sh"),
-        "What does it take beside OpenSCAD?",
+        "How long does it take beside OpenSCAD?",
         "`sh bench/peers.sh` gives the same sources to the proved program and to `openscad`, which writes OFF. Each "
-        "goes from the source to the text. Times are of processors, user and system, with one worker. The program's "
-        "time is the mean of 50 runs, and has its start in it, which is the first row; `openscad` runs once. "
-        "Instructions are callgrind's. Tetrahedra and slivers are chains: each is joined to those before it.",
+        "program goes from the source to the text. Times are processor times, user and system, with one worker. The "
+        "time of scadserve is the mean of 50 runs and includes its start, which the first row shows; `openscad` runs "
+        "once. Callgrind counts the instructions. Tetrahedra and slivers form chains: each is joined to those before it.",
         peers_table,
         (
-            (PEERS, "Both programs on the largest source of each family: a bar for each, on a logarithmic scale."),
-            (GROWTH, "How the times grow with the number of parts: scadserve in full lines, openscad in dashed ones."),
+            (PEERS, "Both programs on the largest source of each family, with a bar for each, on a logarithmic scale."),
+            (GROWTH, "Growth of the times with the number of parts: full lines for scadserve, dashed lines for openscad."),
         ),
     ),
     Section(
         "edits",
         ("sh", "bench/edits.sh", "--workers", "1"),
-        "What does an export after an edit take?",
-        "`sh bench/edits.sh --workers 1` times an export after an edit of one line: a number changed in the part in the "
-        "middle, a part put in front of all, the part in the middle removed. The cost of an export is that of a run of "
-        "its script, less that of the script without its last line. Times are of a processor, the least of 25 runs.",
+        "How long does an export after an edit take?",
+        "`sh bench/edits.sh --workers 1` times an export after an edit of one line: a number is changed in the middle "
+        "part, a part is added before all others, or the middle part is removed. The cost of an export is the cost of "
+        "its script minus that of the script without its last line. Times are processor times, the least of 25 runs.",
         edits_table,
     ),
     Section(
         "clients",
         ("sh", "bench/clients.sh"),
-        "What do clients and workers gain?",
-        "`sh bench/clients.sh` times clients that are served at the same time, by the clock, the median of 15 runs, "
-        "with the settings of `memory.sh` and without them. Eight clients have 100 parts each, of their own or the same "
-        "ones. The first rows are eight programs with one client each, which share nothing but the machine.",
+        "How much do more clients and workers gain?",
+        "`sh bench/clients.sh` times clients that are served at the same time, by the clock. Times are the median of 15 "
+        "runs, with the settings of `memory.sh` and without them. Each of eight clients has 100 parts, either its own or "
+        "the same as the others. The first rows are eight programs with one client each, which share only the machine.",
         clients_table,
     ),
     Section(
         "worst",
         ("sh", "bench/worst.sh", "--largest"),
         "What do the worst sources take?",
-        "`sh bench/worst.sh --largest` times sources that are made to cost much, with one worker, by the clock, and has "
-        "the largest of each family. The growth is the exponent by which the seconds grow with n, from the size before. "
-        "RECIPES says how a service [sets limits](RECIPES.md#a-service-under-limits) to what a source takes.",
+        "`sh bench/worst.sh --largest` times sources that are written to be costly, with one worker, by the clock. The "
+        "table has the largest of each family. If the seconds grow as a power of n, the growth is its exponent, computed "
+        "from the size before. RECIPES says how a service [sets limits](RECIPES.md#a-service-under-limits).",
         printed_table,
     ),
     Section(
         "maker",
         ("python3", "bench/maker.py"),
-        "What do a maker's parts take?",
-        "`python3 bench/maker.py` makes ten parts of a maker's kind from OpenSCAD's sources, compares box and volume "
-        "with OpenSCAD's own, and times both by the clock.",
+        "How long do a maker's parts take?",
+        "`python3 bench/maker.py` makes ten typical parts of a maker, compares the box and the volume with OpenSCAD's, "
+        "and times both programs by the clock.",
         printed_table,
     ),
     Section(
         "tiles",
         ("python3", "bench/tiles.py", "growth", "--jobs", "1"),
-        "What do designs by tiles take, and how does it grow?",
-        "`python3 bench/tiles.py growth --jobs 1` makes squares full of balls with bores, of 2 to 96 balls, "
-        "[by tiles](OPENSCAD.md#any-size-by-tiles). Seconds are of processors: to cut the design into pieces, to make the "
-        "tiles of the pieces by the server and read their texts, and to join these.",
+        "How long do designs by tiles take, and how does the time grow?",
+        "`python3 bench/tiles.py growth --jobs 1` makes squares of 2 to 96 balls with bores, at one density, "
+        "[by tiles](OPENSCAD.md#any-size-by-tiles). The processor seconds are those to cut the design into pieces, to make "
+        "the tiles of the pieces with the server and read their texts, and to join these.",
         printed_table,
     ),
 )
 
 BEGINNING = """# Figures
 
-What the proved program takes. A figure here is a measurement, not a promise: no contract speaks of time
-([PROOFS.md](PROOFS.md#what-is-neither)). `sh bench/figures.sh` makes this page again: it runs each measurement, and writes the
+How much time and memory the proved program takes. The figures are measurements, not promises: no contract is about time
+([PROOFS.md](PROOFS.md#what-is-neither)). `sh bench/figures.sh` makes this page again. It runs each measurement, and writes the
 tables and the plots, with the machine, the date and the commit.
 """
 
 END = """## What else is measured
 
-Each script prints what it measures, and says at its head how.
+Each script prints its results; the comment at its head says how it measures.
 
 | By hand | Prints |
 |---|---|
 | `sh bench/series.sh` | instructions and memory of solids, facets and texts, and how they grow |
-| `sh bench/geometry.sh` | how many sides and cuts a second are made, beside the same sums in plain Rust (it needs `rustc`) |
-| `tools/compare-openscad.py` | the seconds of parts by both, as [OPENSCAD.md](OPENSCAD.md#compared-with-openscad) has them |
-| `python3 bench/tiles.py sizes` | the seconds of two designs by tiles of several sizes |
-| `python3 bench/tiles.py chance` | whether designs by chance are the same by two sizes of tiles, and as one source |
-| `sh bench/memo.sh` | how many probes and fills a second the memo takes at 64, 512 and 4,096 entries |
-| `sh bench/syntax.sh` | how many bytes a second are lexed and parsed, of ordinary and of dense sources |
-| `sh bench/functions.sh` | how many calls of a recursive function and indexes of a list are evaluated a second |
-| `sh bench/intern.sh` | the time in which a store is made of 64, 256 and 1,024 leaves |
+| `sh bench/geometry.sh` | sides and cuts in a second, beside the same sums in plain Rust (it needs `rustc`) |
+| `tools/compare-openscad.py` | the times of parts with both programs, as in [OPENSCAD.md](OPENSCAD.md#compared-with-openscad) |
+| `python3 bench/tiles.py sizes` | the times of two designs by tiles of several sizes |
+| `python3 bench/tiles.py chance` | whether designs by chance are the same with two sizes of tiles, and as one source |
+| `sh bench/memo.sh` | probes and fills of the memo in a second, with 64, 512 and 4,096 entries |
+| `sh bench/syntax.sh` | bytes that are lexed and parsed in a second, of ordinary and of dense sources |
+| `sh bench/functions.sh` | calls of a recursive function, and indexes of a list, in a second |
+| `sh bench/intern.sh` | the time to make a store of 64, 256 and 1,024 leaves |
 | `sh bench/modules.sh`, `sh bench/names.sh` | the time of calls of modules, and of sources with many names, and how it grows |
 | `sh bench/hull.sh` | the time of hulls of 8, 32 and 128 points |
-| `sh bench/solids.sh`, `sh bench/facets.sh` | the time and the size of unions and plates; facets and bytes of text a second |
+| `sh bench/solids.sh`, `sh bench/facets.sh` | time and size of unions and plates; facets and bytes of text in a second |
 | `sh bench/sharing.sh` | what eight clients gain by more processors, and a repeated export by the memo |
-| `sh bench/parallel.sh` | the time of 1,024 parts by one call of `scad2off`, and by GNU parallel, where that is installed |
+| `sh bench/parallel.sh` | the time of 1,024 parts by one call of `scad2off`, and by GNU parallel if it is installed |
 """
 
 
@@ -282,7 +282,7 @@ def peers_plot(peers: Sequence[Peer]) -> str:
     height = 60 + step * len(rows)
     times = [time for it in rows for time in (it.ours, it.theirs)]
     scale = Scale(10 ** math.floor(math.log10(min(times))), 10 ** math.ceil(math.log10(max(times))), left, width - 70)
-    parts = [word(left, 18, "time of processors, on a logarithmic scale: scadserve (dark), openscad (light)")]
+    parts = [word(left, 18, "processor time, on a logarithmic scale: scadserve (dark), openscad (light)")]
     for ten in scale.tens():
         at = scale.at(ten)
         parts.append(f'<path d="M{at:.1f} 30V{height - 24}" stroke="#ddd"/>')
@@ -308,7 +308,7 @@ def growth_plot(peers: Sequence[Peer]) -> str:
     across = Scale(1, 10 ** math.ceil(math.log10(max(it for it, _ in points))), left, 560)
     low = 10 ** math.floor(math.log10(min(it for _, it in points)))
     up = Scale(low, 10 ** math.ceil(math.log10(max(it for _, it in points))), bottom, 30)
-    parts = [word(left, 18, "time of processors by the number of parts: scadserve full, openscad dashed")]
+    parts = [word(left, 18, "processor time by the number of parts: scadserve full, openscad dashed")]
     for ten in across.tens():
         at = across.at(ten)
         parts += [f'<path d="M{at:.1f} 30V{bottom}" stroke="#ddd"/>', word(at, bottom + 18, f"{ten:g}", "middle")]
@@ -361,7 +361,7 @@ def main(words: Sequence[str]) -> int:
     """Does what the words ask for, and gives the status."""
     parser = argparse.ArgumentParser(prog="figures", allow_abbrev=False)
     parser.add_argument(
-        "--from", dest="folder", type=Path, metavar="FOLDER", help="what was measured before; alone: run nothing"
+        "--from", dest="folder", type=Path, metavar="FOLDER", help="the folder with earlier output; alone: run nothing"
     )
     parser.add_argument("names", nargs="*", metavar="NAME", help=", ".join(it.name for it in SECTIONS))
     asked = parser.parse_intermixed_args(words)

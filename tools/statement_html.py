@@ -57,6 +57,7 @@ class Links:
         """The links of all pages."""
         self.library, self.sources = statement.library, Sources(statement.library.top)
         self.pages = {it.target: part.name for part in statement.parts for it in part.items}
+        self.words = statement.words
         self.users: dict[Target, dict[Target, None]] = {}
         self.named: dict[Target, list[Named]] = {}
         self.of_calls: dict[tuple[str, str], list[Named]] = {}
@@ -64,7 +65,8 @@ class Links:
             for it in part.items:
                 self.named[it.target] = self.named_in(it)
             for call in part.all_calls(statement):
-                self.of_calls[part.name, call.name] = self.named_in_call(call, Target("call", call.crate, part.name, call.name))
+                user = Target("call", call.crate, part.name, call.name)
+                self.of_calls[call.crate, call.name] = self.named_in_call(call, user)
 
     def address(self, target: Target) -> str:
         """The address of a definition, a type or a call."""
@@ -83,7 +85,7 @@ class Links:
     def name(self, target: Target, word: str, token: Token, user: Target) -> list[Named]:
         """The link of a word; none where it leads to no page. The one that has the word is noted."""
         if target.crate not in self.library.crates:
-            address = library_address(target)
+            address = library_address(target, self.words)
             return [Named(token.line, token.column, len(token), address)] if address else []
         found = self.resolved(target, word)
         if found is None or found == user:
@@ -124,10 +126,10 @@ def identity(target: Target) -> str:
     return f"{target.crate}.{target.name}"
 
 
-def library_address(target: Target) -> str:
-    """The address of a name of the library; empty where no row has it."""
+def library_address(target: Target, pages: dict[str, str]) -> str:
+    """The address of a name of the library, by the page of each such name; empty where no row has it."""
     word = library_word(target)
-    return f"PROMISE.html#library.{html.escape(word)}" if word in LIBRARY else ""
+    return f"{pages[word]}.html#library.{html.escape(word)}" if word in LIBRARY and word in pages else ""
 
 
 def linked(lines: Sequence[str], named: Iterable[Named], first: int = 0, sign: str = "--") -> str:
@@ -242,9 +244,9 @@ def group_section(members: Sequence[Item], links: Links) -> str:
     return f'<div class="group">{head}\n' + "\n".join(item_section(it, links) for it in members) + "\n</div>"
 
 
-def call_section(page: str, call: Call, links: Links) -> str:
+def call_section(call: Call, links: Links) -> str:
     """A call with its clauses."""
-    code = linked(call.lines, links.of_calls[page, call.name], 0, "//")
+    code = linked(call.lines, links.of_calls[call.crate, call.name], 0, "//")
     return f'<section id="{call.crate}.{call.name}"><p>{spoken(" ".join(call.comment))}</p><pre>{code}</pre></section>'
 
 
@@ -256,7 +258,7 @@ def body_of(statement: Statement, part: Part, page: Page, links: Links) -> str:
         if isinstance(block, Words):
             found.append(prose(block.lines) if block.lines else prose(counts_of(page)))
         elif isinstance(block, Calls):
-            found += [call_section(part.name, it, links) for it in block.calls]
+            found += [call_section(it, links) for it in block.calls]
         else:
             found.append(prose([block.title]))
             found += [group_section(it, links) for it in block.groups]
@@ -276,7 +278,7 @@ def names_of(statement: Statement, links: Links) -> str:
     rows = [[it.target.name, links.address(it.target), comment_of(it)] for part in statement.parts for it in part.items]
     calls = [(part.name, it) for part in statement.parts for it in part.all_calls(statement)]
     rows += [[it.name, f"{page}.html#{it.crate}.{it.name}", " ".join(it.comment)] for page, it in calls]
-    rows += [[word, f"PROMISE.html#library.{word}", LIBRARY[word]] for word in statement.words if word in LIBRARY]
+    rows += [[word, f"{page}.html#library.{word}", LIBRARY[word]] for word, page in statement.words.items() if word in LIBRARY]
     return "const NAMES = [\n" + ",\n".join(json.dumps(it, ensure_ascii=False) for it in rows) + "\n];\n"
 
 

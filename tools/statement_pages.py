@@ -72,7 +72,7 @@ class Part(NamedTuple):
 
 
 class Statement(NamedTuple):
-    """All that the pages rest on, page by page."""
+    """All that the pages rest on, page by page, and the first page that uses each name of the library."""
 
     library: Library
     call: Call
@@ -81,7 +81,7 @@ class Statement(NamedTuple):
     example: list[str]
     parts: list[Part]
     met: list[Cut]
-    words: list[str]
+    words: dict[str, str]
     depths: Reached
 
     def part(self, name: str) -> Part:
@@ -128,7 +128,9 @@ def read(top: Path) -> Statement:
     for at, name in enumerate([it.page for it in CUTS] + list(LAWS), 1):
         parts.append(Part(name, laws.get(name, []), reached[at].beyond(*reached[:at])))
     program = body_of(call.path.parent / "program.rt", PROGRAM)
-    words = list(reached[-1].words)
+    words: dict[str, str] = {}
+    for part, it in zip(parts, reached):
+        words.update({word: part.name for word in it.words if word not in words})
     return Statement(library, call, exits, program, example(top), parts, list(reached[0].met), words, reached[0])
 
 
@@ -301,14 +303,17 @@ def what_it_is(original: str, name: str) -> str:
     return f"`{original.split('{')[-1].split('::')[-1]}`"
 
 
-def library_words(names: Iterable[str]) -> list[str]:
-    """Names of the library in alphabetical order. Raises Failure where one has no words."""
+def library_words(statement: Statement, part: Part) -> list[str]:
+    """The names of the library that a page uses and none before it, in alphabetical order. Raises Failure where one has no
+    words."""
+    names = [word for word, page in statement.words.items() if page == part.name]
     found = sorted(names, key=lambda it: (it.isidentifier(), it.lower(), it))
     unknown = [it for it in found if it not in LIBRARY]
     if unknown:
         raise Failure(f"tools/statement_words.py has no words for {', '.join(unknown)} of the toolchain's library")
     rows = [("Name", "What it is"), *((f"`{it}`", LIBRARY[it]) for it in found)]
-    return ["## Names of the library", "", *filled(FURTHER["library"]), "", *table(rows)] if found else []
+    said = FURTHER["library" if part.name == "PROMISE" else "more of the library"]
+    return ["## Names of the library", "", *filled(said), "", *table(rows)] if found else []
 
 
 def worked_laws(statement: Statement) -> list[Call]:
@@ -321,13 +326,13 @@ def blocks(statement: Statement, part: Part) -> list[Block]:
     counts = Words([])
     if part.name != "PROMISE":
         body: list[Block] = [Items("## The definitions, from above", in_groups(part.items))]
-        return [counts, *law_words(part), *body, Words(other_names(statement, part))]
+        return [counts, *law_words(part), *body, Words([*other_names(statement, part), *library_words(statement, part)])]
     assumed = ["## What is assumed", "", *points([f"**{name}.** {said}" for name, said in ASSUMED]), ""]
     notation = ["## How to read it", "", *filled(READING), "", *table([("Written", "Read"), *NOTATION])]
     before = [*promise_words(statement.call), Words([*assumed, *cut_words(statement)]), counts]
     cube = ["## One cube", "", *statement.example, *filled(WORKED[1]), ""]
     before += [Words(cube), Calls(worked_laws(statement)), Words(notation)]
-    behind = Words([*other_names(statement, part), *library_words(statement.words)])
+    behind = Words([*other_names(statement, part), *library_words(statement, part)])
     return [*before, *steps(statement, part), *exit_words(statement), behind]
 
 

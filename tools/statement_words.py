@@ -98,7 +98,8 @@ PAGES: dict[str, tuple[str, tuple[str, ...]]] = {
             "say what is meant, and this page is for that. A reader who trusts this page, and what is assumed, can trust "
             "three things: a status says what was done; the replies of a client are those that its commands define, except "
             "where memory ran out; and each solid's text is the watertight boundary of what its source means. No other page "
-            "is needed for that.",
+            "is needed for that. That a solid comes, and not a limit that its tree doesn't pass, is said by `AnswersSource` "
+            "on [ALGORITHM](ALGORITHM.md).",
         ),
     ),
     "ALGORITHM": (
@@ -193,16 +194,19 @@ EXAMPLE: tuple[tuple[str, str, str], ...] = (
 # The crate whose laws prove the worked example, and the words before them.
 WORKED = (
     "one_cube",
-    "And it is proved, as a law whose words stand on [LAWS](LAWS.md), from the bytes of the source to those of the text:",
+    "And it is proved, as a law whose words stand on [LAWS](LAWS.md), from the bytes of the source to those of the text. "
+    "`worked_source` is the row's source without a newline, and by `one_reply` it has no other reply:",
 )
 
 FURTHER: dict[str, str] = {
     "steps": "`StatusTells` and what else a clause names are the first step; what these name is the second, and so on, "
-    "each once. Behind a step stands what its definitions are of, and how many.",
+    "each once. The calls at the end of the page name the last ones of the first step, from `ExitTells` on. Behind a step "
+    "stands what its definitions are of, and how many.",
     "exits": "The program makes the first of these calls, which hands on to the second one, and ends with the number of "
     "its status. The last lines are the program's own, and have no clause.",
-    "library": "These stand in the toolchain's library, whose own definitions say the same in full. The other pages use no "
-               "others.",
+    "library": "These stand in the toolchain's library, whose own definitions say the same in full. The other pages have "
+    "tables of those that they use beyond these.",
+    "more of the library": "Beyond those of the pages before.",
     "classes": "Lines of definitions and types with their comments, by what they are of.",
 }
 
@@ -210,7 +214,8 @@ READING = (
     "Each definition has a comment that says what it means, behind its first line or above it, and then its text, which "
     "counts. What is indented belongs to the definition above it. The language is antt, in which a statement is a type; "
     "what has braces is a type or a trait of the sources. The words `pub`, `abbrev` and `unfoldable` are left out, of "
-    "which only files and proofs take notice, and so are imports."
+    "which only files and proofs take notice, and so are imports. A name without a definition stands in one of the two "
+    "tables at the end."
 )
 
 # The laws of each page that has some: their crates in order, each with the names that count, as a pattern. No crate is the
@@ -234,10 +239,11 @@ LAWS: dict[str, dict[str, str]] = {
 # The promise in plain words, clause by clause. A clause of the call that has no words here is an error, and so is the opposite.
 PROMISE: dict[str, str] = {
     "told": "The status tells what was done. At `Done` the words chose settings, the whole input was read, and just its "
-    "output was written. The replies of each client are those that its own commands define, whatever the order of"
-    " threads, but for where memory ran out: there a reply says so. Each solid is the watertight boundary of the "
-    "tree that the client's source means. Each other status says which fault there was, and what was written "
-    "before it.",
+    "output was written. The replies of each client are those that its own commands define, whatever the order of "
+    "threads: `AllFit` takes the commands of each client alone. It is so but for where memory ran out: there a reply is "
+    "`nomem`, and the status may be `Done`. Each solid is the watertight boundary of the tree that the client's source "
+    "means. Each other status says which fault there was, and what was written before it; `NoMemory` says that the output "
+    "ended early.",
     "reads": "Where the words are outside the grammar, or choose the demonstration, nothing is read. Whatever the status,"
     " no more bytes are read than a script may have, and those of one read more.",
     "causes": "A source that failed is told as that, and so is a sink. The counts of their faults never fall.",
@@ -288,7 +294,8 @@ ASSUMED: list[tuple[str, str]] = [
     ),
     (
         "These definitions",
-        "That they say what is meant is for the reader to judge. The [laws](LAWS.md) show that they leave nothing open.",
+        "That they say what is meant is for the reader to judge. The [laws](LAWS.md) show that they leave nothing open, and "
+        "that `IsMeaning`, which speaks of each right judge of shapes, is not empty: there is one.",
     ),
 ]
 

@@ -155,7 +155,7 @@ def solve(
 ) -> list[Solid | Fault]:
     """The solid or the fault of each source, in order, in as few runs of the server as can be.
 
-    `half`: lengths may lie on half units. `definitions`: values by name, which are assigned behind each source's own lines.
+    `half`: corners may lie at half units. `definitions`: values by name, which are assigned behind each source's own lines.
     `folders`: where to look for what a source includes or uses, behind its own folder. `workers` (1 to 64, else 4) and
     `memo` (0 to 2,000,000, else 500,000) are the server's, and change no answer. `time`: seconds for all of it. `server`:
     the program, or words that start it; else what SCADSERVE in the environment names, or `./scadserve`. `by_openscad`: let

@@ -48,7 +48,7 @@ class Front(Calls):
             [
                 'ECHO: "by the stand-in"',
                 "part.scad: on a grid of 1/1000: no corner moved",
-                "part.scad: a length of its text is 0.001 mm, so its mesh comes of off2stl --unit 1/1000",
+                "part.scad: a unit of its text is 0.001 mm, so make its mesh by off2stl --unit 1/1000",
             ],
         )
         [(_, script)] = self.runs()
@@ -77,7 +77,7 @@ class Front(Calls):
                 self.assertNotIn("unit", "".join(lines[:-1]))
                 if step is not None:
                     said = self.call("--by-openscad", "part.scad", "-o", "a.4off", environment=openscad)[2].decode()
-                    self.assertTrue(said.endswith(f", so its mesh comes of off2stl --unit {step}\n"), said)
+                    self.assertTrue(said.endswith(f", so make its mesh by off2stl --unit {step}\n"), said)
 
     def test_a_unit_is_read_of_what_is_included_and_told_before_openscad_runs(self):
         self.write("lib.scad", "// unit: 1/10\n")
@@ -124,13 +124,16 @@ class Front(Calls):
 
     def test_words_that_contradict_one_another(self):
         self.write("part.scad", "cube(1);\n")
-        for words, said in ((["--exact"], "--exact is for --by-openscad"), (["--by-openscad", "--half"], "it takes no --half")):
+        for words, said in (
+            (["--exact"], "--exact is for --by-openscad"),
+            (["--by-openscad", "--half"], "--half can't be given with it"),
+        ):
             status, _, error = self.call(*words, "part.scad")
             self.assertEqual((status, error.count(b"\n")), (2, 1))
             self.assertIn(said, error.decode())
         status, _, error = self.call("--by-openscad", "-")
         self.assertEqual(status, 2)
-        self.assertIn("OpenSCAD reads files alone", error.decode())
+        self.assertIn("OpenSCAD reads only files", error.decode())
 
 
 @needs_openscad

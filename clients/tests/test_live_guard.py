@@ -188,8 +188,8 @@ class Words(unittest.TestCase):
             Path(folder, "a.stl").write_text("")
             os.symlink("a.stl", os.path.join(folder, "link.scad"))
             for words, part in (
-                (("--bind", "0.0.0.0"), "so it takes --token"),
-                (("--bind", "::"), "so it takes --token"),
+                (("--bind", "0.0.0.0"), "so it needs --token"),
+                (("--bind", "::"), "so it needs --token"),
                 (("--bind", "localhost"), "is not an address in numbers"),
                 (("--token", "short"), "8 to 200"),
                 (("--token", "with a blank in it"), "8 to 200"),

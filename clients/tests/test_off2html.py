@@ -202,12 +202,12 @@ class Tool(Case):
             (2, [self.file("s.scad", b"cube(1);\n")], "s.scad:1: error: the first line is not '4OFF': scad2off makes"),
             (2, [self.path("none")], "off2html: cannot open none: No such file"),
             (2, ["-o", self.path("none/a.html"), good], "off2html: cannot write none/a.html: No such file"),
-            (2, ["-o", good, good], "off2html: a.4off would be a page, and has another ending"),
-            (2, ["-o", self.path("a.SVG"), good], "off2html: a.SVG would be a page, and has another ending"),
+            (2, ["-o", good, good], "off2html: a.4off would be a page, but has another ending"),
+            (2, ["-o", self.path("a.SVG"), good], "off2html: a.SVG would be a page, but has another ending"),
             (2, ["--view", "x", "1", good], "is not an angle"),
             (2, ["--unit", "0", good], "is not a number above 0"),
-            (2, ["--watch", good], "off2html: --watch reads a FILE again and again, and writes one"),
-            (2, ["--watch", "-o", self.path("a.html")], "off2html: --watch reads a FILE again and again, and writes one"),
+            (2, ["--watch", good], "off2html: --watch needs a file to read again and a file to write"),
+            (2, ["--watch", "-o", self.path("a.html")], "off2html: --watch needs a file to read again and a file to write"),
             (2, ["--wat", good], "off2html: "),
         ):
             self.assert_fault(status, words, said)
@@ -249,18 +249,18 @@ class Watching(Case):
         write_file(file, off(box((0, 0, 0), (2, 3, 5))))
         self.wait("<dd>30</dd>")
         write_file(file, b"4OFF\n")
-        self.wait("<dd>30</dd>", 'role="alert">', "w.4off:2: error: the second line is not", "This is the solid from before.")
+        self.wait("<dd>30</dd>", 'role="alert">', "w.4off:2: error: the second line is not", "This is the previous solid.")
         write_file(file, off(box((0, 0, 0), (2, 3, 6))))
         self.wait("<dd>36</dd>")
-        self.assertNotIn(b"solid from before", self.bytes_of("w.html"))
+        self.assertNotIn(b"previous solid", self.bytes_of("w.html"))
         os.unlink(file)
-        self.wait("<dd>36</dd>", "No such file or directory. This is the solid from before.")
+        self.wait("<dd>36</dd>", "No such file or directory. This is the previous solid.")
         tool.send_signal(signal.SIGINT)
         said = tool.communicate()[1].decode().replace(self.folder + os.sep, "").splitlines()
         self.assertEqual(tool.returncode, 130)
-        self.assertRegex(said[0], r"\Aw\.4off:2: error: the second line .*; w\.html shows the solid from before\Z")
+        self.assertRegex(said[0], r"\Aw\.4off:2: error: the second line .*; w\.html shows the previous solid\Z")
         self.assertEqual(
-            said[1:], ["off2html: cannot open w.4off: No such file or directory; w.html shows the solid from before"]
+            said[1:], ["off2html: cannot open w.4off: No such file or directory; w.html shows the previous solid"]
         )
 
     def test_it_begins_with_a_solid(self):

@@ -276,7 +276,7 @@ class Watched(Case):
         self.assertEqual(len(self.faces()), 1)
         self.file("w.4off", b"4OFF\n1 1\n")
         alert = self.browser.wait("document.querySelector('[role=alert]')?.textContent")
-        self.assertRegex(alert, r"w\.4off:2: error: .*\. This is the solid from before\.\Z")
+        self.assertRegex(alert, r"w\.4off:2: error: .*\. This is the previous solid\.\Z")
         self.volume(18)
         self.assertEqual(self.browser.complaints(), [])
 

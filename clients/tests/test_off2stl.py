@@ -66,14 +66,14 @@ class Telling(Case):
             ("1e-1", "unit 0.1 mm; box 2 x 1.2 x 1.6; volume 3.84"),
             (".5", "unit 0.5 mm; box 10 x 6 x 8; volume 480"),
             ("25.4", "unit 25.4 mm; box 508 x 304.8 x 406.4; volume 62926326"),
-            ("1/3", "unit 1/3 mm; box 6.66667 x 4 x 5.33333; volume 142.222; 6 corners rounded to the nearest the format has"),
+            ("1/3", "unit 1/3 mm; box 6.66667 x 4 x 5.33333; volume 142.222; 6 corners rounded for the format"),
         ):
             self.assertEqual(self.told(BLOCK, "--unit", unit), f"6 faces, 12 triangles, 1 part, closed; {rest}")
 
     def test_exact_numbers(self):
         for unit, rest in (
             ("25.4", "unit 25.4 mm; box 508 x 304.8 x 406.4; volume 62926325.76"),
-            ("1/3", "unit 1/3 mm; box 20/3 x 4 x 16/3; volume 1280/9; 6 corners rounded to the nearest the format has"),
+            ("1/3", "unit 1/3 mm; box 20/3 x 4 x 16/3; volume 1280/9; 6 corners rounded for the format"),
         ):
             told = self.told(BLOCK, "--exact-numbers", "--unit", unit)
             self.assertEqual(told, f"6 faces, 12 triangles, 1 part, closed; {rest}")
@@ -81,8 +81,8 @@ class Telling(Case):
     def test_thirds_are_rounded(self):
         # The corner that is cut off has the legs 1, 2/3 and 2/3: a sixth of their product is missing, 2/27.
         expected = "7 faces, 14 triangles, 1 part, closed; unit 1 mm; box 1 x 1 x 1; volume {}; 2 corners rounded "
-        self.assertEqual(self.told(CUT_CUBE), expected.format("0.925926") + "to the nearest the format has")
-        self.assertEqual(self.told(CUT_CUBE, "--exact-numbers"), expected.format("25/27") + "to the nearest the format has")
+        self.assertEqual(self.told(CUT_CUBE), expected.format("0.925926") + "for the format")
+        self.assertEqual(self.told(CUT_CUBE, "--exact-numbers"), expected.format("25/27") + "for the format")
         expected = "7 faces, 14 triangles, 1 part, closed; unit 3 mm; box 3 x 3 x 3; volume 25"
         self.assertEqual(self.told(CUT_CUBE, "--unit", "3"), expected)
 
@@ -103,7 +103,7 @@ class Telling(Case):
         # Of twelve triangles the two of the top and the two of the floor are left. Where these have a diagonal in common,
         # a corner inside one of the two tells them apart.
         expected = "6 faces, 6 triangles, 1 part, closed; unit 1 mm; box 1 x 1 x 1/1" + 30 * "0"
-        rounded = "4 corners rounded to the nearest the format has, 8 triangles lost by that"
+        rounded = "4 corners rounded for the format, 8 triangles lost by that"
         self.assertEqual(self.told(thin, "--exact-numbers"), f"{expected}; volume 1/1{30 * '0'}; {rounded}")
         self.assert_closed(self.triangles("a.stl")[0], 0)
 
@@ -163,7 +163,7 @@ class Formats(Case):
         # 20, 12 and 16 times 2 to the power 24 and 1 have too many bits for a single, and none for a double.
         for unit, rounded in (("1/10", 6), ("1/4", 0), ("1/134217728", 0), ("16777217", 7)):
             _, line = self.call("--format", "binstl", "--unit", unit, "-o", self.path("a.stl"), file)
-            said = f"; {rounded} corners rounded to the nearest the format has\n" if rounded else "; volume"
+            said = f"; {rounded} corners rounded for the format\n" if rounded else "; volume"
             self.assertIn(said, line)
             self.assertEqual("rounded" in line, rounded > 0, line)
 
@@ -253,7 +253,7 @@ class Many(Case):
         self.assert_fault(2, ["-d", self.path("out"), files[0], files[0]], "would both be written to out/a.stl")
         self.assert_fault(2, ["-d", self.path("out"), "-"], "`-` is read once, and has no name for -d")
         self.assert_fault(
-            2, ["--info", "-d", self.path("out"), files[0]], "--info writes no solid, so it takes no -o and no -d"
+            2, ["--info", "-d", self.path("out"), files[0]], "--info writes no solid, so -o and -d can't be given with it"
         )
         self.assert_fault(
             2, ["-d", self.path("a.4off/x"), files[0]], "off2stl: cannot make the folder a.4off/x: Not a directory"
@@ -273,7 +273,7 @@ class Faults(Case):
         for unit in ("0", "0/7", "1/0", "-1", "1e9", ".", "1e", "1e-1/2", "1/2/3", "x", "", " 1", "1" * 10, "0.0", "0e5"):
             self.assert_fault(2, [f"--unit={unit}", file], "is not a number above 0")
         for out in ("a", "a.ply", "stl"):
-            self.assert_fault(2, ["-o", self.path(out), file], "is not a format: say --format")
+            self.assert_fault(2, ["-o", self.path(out), file], "is not that of a format: give --format")
 
     def test_files(self):
         out = ["-o", self.path("a.stl")]
@@ -309,7 +309,7 @@ class Faults(Case):
     def test_a_solid_that_rounding_makes_one_point(self):
         # Near 1 singles are 6e-8 apart, and doubles 1e-16.
         tiny = self.file("a.4off", off(box((1, 1, 1), [1 + Fraction(1, 10**9)] * 3)))
-        said = "a.4off: error: rounding makes one corner of all, so nothing is written: "
+        said = "a.4off: error: rounding moves all corners to one point, so nothing is written: "
         self.assert_fault(1, ["--format", "binstl", "-o", self.path("a.stl"), tiny], said)
         self.assertEqual(self.call("-o", self.path("a.stl"), tiny)[0], 0)
 
@@ -324,7 +324,7 @@ class Faults(Case):
             (BLOCK[:-1], "a.4off:16: error: the text breaks off: no newline at its end\n"),
             (
                 off(box((0, 0, 0), (1, 1, 1))[1:]),
-                "a.4off: error: not closed: 4 edges are not met as often one way as the other\n",
+                "a.4off: error: not closed: 4 edges do not occur equally often in both directions\n",
             ),
             (
                 off([face[::-1] for face in box((0, 0, 0), (1, 2, 3))]),

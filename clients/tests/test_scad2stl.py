@@ -87,7 +87,7 @@ class Meshes(Case):
             (["part.scad", "part.scad"], "several FILEs need -d DIR"),
             (["-o", "a.4off", "part.scad"], "a.4off would be a mesh: scad2off makes a 4OFF text of a source"),
             (["-o", "part.scad", "part.scad"], "part.scad would be a mesh: that is the ending of a source"),
-            (["-o", "a.ply", "part.scad"], "the ending of a.ply is not a format: say --format (see scad2stl --help)"),
+            (["-o", "a.ply", "part.scad"], "the ending of a.ply is not that of a format: give --format (see scad2stl --help)"),
             (["--unit", "0", "part.scad"], "argument --unit: '0' is not a number above 0 and below 10^9 like 2, 25.4 or 1/10 "),
             (["--for", "stl", "part.scad"], "unrecognized arguments: --for"),
             (["-o", "a.stl", "-d", "out", "part.scad"], "-o and -d can't both be given"),

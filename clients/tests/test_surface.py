@@ -137,7 +137,7 @@ class Pairs(Case):
 
 class Faults(Case):
     def test_what_is_open(self):
-        with self.assertRaisesRegex(NotClosed, "^not closed: 4 edges are not met as often one way as the other$"):
+        with self.assertRaisesRegex(NotClosed, "^not closed: 4 edges do not occur equally often in both directions$"):
             surface(UNIT_BOX[1:])
 
     def test_faces_that_overlap(self):

@@ -61,7 +61,7 @@ class Folder(Case):
         self.put("0001.4off", two_boxes(0, 10))
         self.put("0002.4off", two_boxes(20, 30))
         status, said = self.call(self.path("tiles"), "-o", self.path("row.4off"))
-        told = "tiles: 2 tiles joined to a closed surface of 48 triangles, which is checked; print by off2stl --unit 1\n"
+        told = "tiles: 2 tiles joined to a surface of 48 triangles, which was checked to be closed; print by off2stl --unit 1\n"
         self.assertEqual((status, said), (0, told))
         self.assertEqual(measures.volume(fouroff.read(self.bytes_of("row.4off"))).value, 4)
 
@@ -104,14 +104,15 @@ class Folder(Case):
     def test_a_folder_with_files_is_not_written_to(self):
         self.tool = csg2scad
         self.assert_fault(2, [self.path("row.csg"), "--tiles", self.path("tiles")], "the folder tiles is not empty")
-        self.assert_fault(2, [self.path("row.csg"), "--tiles", self.path("new"), "--fewer"], "it takes no -o and no --fewer")
+        words = [self.path("row.csg"), "--tiles", self.path("new"), "--fewer"]
+        self.assert_fault(2, words, "so -o and --fewer can't be given with it")
 
     def test_a_design_past_the_limits_is_no_one_source(self):
         self.tool = csg2scad
         ball = self.file("ball.csg", b"sphere($fn = 60, $fa = 12, $fs = 2, r = 4);\n")
         status, said = self.call(ball, "-o", self.path("ball.scad"))
         self.assertEqual((status, os.path.exists(self.path("ball.scad"))), (1, False))
-        self.assertIn("ball.csg: error: TooManyPlanes: it has more planes or shapes than a source may have\n", said)
+        self.assertIn("ball.csg: error: TooManyPlanes: the design has more planes or shapes than a source may have\n", said)
         self.assertIn("    cure: --tiles DIR", said)
         status, said = self.call(ball, "--fewer", "-o", self.path("ball.scad"))
         self.assertEqual(status, 0)
@@ -198,7 +199,7 @@ class Ended(Calls):
     def test_a_script_of_a_large_part_is_refused(self):
         status, out, said = self.call("--by-openscad", "--script", "part.scad", environment={"OPENSCAD": self.openscad})
         self.assertEqual((status, out), (2, b""))
-        self.assertIn(b"part.scad is made by tiles, and --script prints the script of one source", said)
+        self.assertIn(b"part.scad is made by tiles, but --script prints the script of one source", said)
 
 
 class Bounds(unittest.TestCase):

@@ -46,15 +46,15 @@ _CURES = {
     "Warned": "without --strict the part is made, and may lack what this is about",
     "Empty": "look for a * or %, an if, or a difference that leaves nothing",
     "WrongDimension": "linear_extrude(1) makes a solid of flat shapes, and --flat 1 of a design that is flat as a whole",
-    "TooCoarse": "ask for it, or make several parts of it: each may be finer",
+    "TooCoarse": "allow the difference, or make several parts of it: each may be finer",
     "OutOfRange": "move it to the middle, or make it smaller",
-    "TooManyPlanes": "take fewer fragments ($fn), or make several parts of it",
+    "TooManyPlanes": "use fewer fragments ($fn), or make several parts of it",
     "TooManyParts": "make several parts of it",
-    "TooManyCorners": "take fewer fragments ($fn) or slices",
+    "TooManyCorners": "use fewer fragments ($fn) or slices",
     "TooManyNodes": "make several parts of it",
     "NotConvex": "join convex shapes by union; corners of a polyhedron's faces go clockwise as seen from outside",
 }
-_ABOVE = "what OpenSCAD says stands above"
+_ABOVE = "OpenSCAD's own words are above"
 _NODES = "openscad --render -o part.csg PART.scad writes the nodes, and docs/OPENSCAD.md says which are taken"
 
 
@@ -82,7 +82,7 @@ class Reader:
     def __call__(self, file: str, definitions: Sequence[str], folders: Sequence[str]) -> Source:
         """The source that comes of a file. Raises OSError, BadCall and Refused."""
         if file == "-":
-            raise BadCall("OpenSCAD reads files alone, and not standard input")
+            raise BadCall("OpenSCAD reads only files, not standard input")
         said = units_said(file, folders)
         self._units[file] = self._unit or unit_said(said)
         try:
@@ -110,7 +110,7 @@ class Reader:
         planes = int(self._planes[source.name] * _SHARE)
         if not self._wanted.may_be_fewer or planes < _LEAST:
             return None
-        self._tell(f"{source.name}: its solid passes a limit of the server, so it is tried with {planes} planes at most\n")
+        self._tell(f"{source.name}: its solid exceeds a limit of the server, so it is tried with at most {planes} planes\n")
         return self._converted(source.name, planes)
 
     def larger(self, source: Source) -> LargeSource | None:
@@ -118,7 +118,7 @@ class Reader:
         if self._wanted.may_be_fewer:
             return None
         nodes, front, _ = self._evaluated[source.name]
-        self._tell(f"{source.name}: its solid passes a limit of the server, so it is made by tiles\n")
+        self._tell(f"{source.name}: its solid exceeds a limit of the server, so it is made by tiles\n")
         try:
             return self._large(source.name, whole(nodes, self._wanted, front))
         except CsgFault as fault:
@@ -159,10 +159,10 @@ class Reader:
         except CsgFault as fault:
             raise _refused(file, fault) from fault
         except (NotClosed, NotOfTile) as fault:
-            raise Malformed(f"{file}: the solids of its tiles make no whole: {fault}") from fault
+            raise Malformed(f"{file}: the solids of its tiles do not fit together: {fault}") from fault
         finally:
             progress.end()
-        proved = "each tile's text is proved, and that they join to a closed surface is checked"
+        proved = "the text of each tile is proved; that they join to a closed surface was checked"
         self._tell(f"{file}: made of {found.tiles} tiles; {proved}\n")
         return text_of(found.surface)
 
@@ -188,7 +188,7 @@ def _not_evaluated(file: str, error: Told) -> Refused:
     word = next((word for begins, word in _WORDS.items() if error.said.startswith(begins)), None)
     if word is not None:
         return _told(file, error, word, error.said)
-    return _told(file, error, "NotInProfile", f"OpenSCAD evaluates nothing: {error.said}")
+    return _told(file, error, "NotInProfile", f"OpenSCAD can't evaluate it: {error.said}")
 
 
 def _told(file: str, told: Told, word: str, said: str) -> Refused:

@@ -58,8 +58,8 @@ def export_closed(
     solid = mesh(off2tool.stem(file), surface, lengths.unit, form, lengths.step)
     volume = off2tool.check(file, boundary, solid.triangles)
     if not solid.triangles:
-        what = f"{called(file)}: error: rounding makes one corner of all, so nothing is written"
-        raise BadSolid(f"{what}: take a larger --unit, or another --format than binstl", PART_FAULT)
+        what = f"{called(file)}: error: rounding moves all corners to one point, so nothing is written"
+        raise BadSolid(f"{what}: use a larger --unit, or a --format other than binstl", PART_FAULT)
     return solid, f"{called(file)}: {_summary(boundary, rings, solid, volume, lengths)}\n"
 
 
@@ -82,7 +82,7 @@ def _summary(boundary: Boundary, rings: Sequence[closing.Ring], solid: Mesh, vol
     sides = " x ".join(lengths.told((high - low) * length) for low, high in box(boundary))
     told = [f"unit {shown(lengths.unit)} mm", f"box {sides}", f"volume {lengths.told(volume.value * length**3, volume.exact)}"]
     if solid.rounded:
-        told.append(f"{_counted(solid.rounded, 'corner')} rounded to the nearest the format has")
+        told.append(f"{_counted(solid.rounded, 'corner')} rounded for the format")
     if solid.lost:
         told[-1] += f", {_counted(solid.lost, 'triangle')} lost by that"
     return "; ".join([", ".join(counts), *told])

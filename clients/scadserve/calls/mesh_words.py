@@ -17,9 +17,9 @@ _BINARY = ("binstl", "3mf")
 
 def mesh_words(words: Words) -> None:
     """The words that each tool takes which writes meshes."""
-    words.add_argument("--unit", type=unit_argument, metavar="U", help="how many millimetres a unit is: 1/10, 25.4; else 1")
-    words.add_argument("--exact-numbers", action="store_true", help="tell box and volume exactly, else to six figures")
-    words.add_argument("--format", choices=FORMATS, help="else the ending of OUT says it, or it is stl")
+    words.add_argument("--unit", type=unit_argument, metavar="U", help="a unit's length in millimetres: 1/10, 25.4; default: 1")
+    words.add_argument("--exact-numbers", action="store_true", help="print box and volume exactly; default: to six figures")
+    words.add_argument("--format", choices=FORMATS, help="the format; default: that of the ending of OUT, or else stl")
 
 
 def format_of(words: Words, asked: Namespace) -> str:
@@ -27,9 +27,9 @@ def format_of(words: Words, asked: Namespace) -> str:
     to_file = asked.out not in (None, "-")
     form: str = asked.format or (os.path.splitext(asked.out)[1][1:].lower() if to_file else "stl")
     if form not in FORMATS:
-        words.error(f"the ending of {asked.out} is not a format: say --format")
+        words.error(f"the ending of {asked.out} is not that of a format: give --format")
     if form in _BINARY and not to_file and asked.folder is None and sys.stdout.isatty():
-        words.error(f"{form} is not for a terminal: say -o OUT")
+        words.error(f"{form} is not for a terminal: give -o OUT")
     return form
 
 

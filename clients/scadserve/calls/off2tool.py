@@ -31,8 +31,8 @@ class BadSolid(Exception):
 def off_words(tool: str, description: str) -> Words:
     """The words of a tool that reads a 4OFF text and writes a file."""
     words = Words(tool, description)
-    words.add_argument("-o", dest="out", metavar="OUT", default="-", help="the file to write; else standard output")
-    words.add_argument("file", nargs="?", default="-", metavar="FILE", help="a 4OFF text; else standard input")
+    words.add_argument("-o", dest="out", metavar="OUT", default="-", help="the file to write; default: standard output")
+    words.add_argument("file", nargs="?", default="-", metavar="FILE", help="a 4OFF text; default: standard input")
     return words
 
 
@@ -112,7 +112,7 @@ def check(file: str, boundary: fouroff.Boundary, rings: Sequence[closing.Ring]) 
     """The volume. Raises BadSolid where the rings, which go round the boundary's faces, are not closed or look inward."""
     unpaired = closing.open_edges(closing.ways(rings))
     if unpaired:
-        raise BadSolid(f"{called(file)}: error: not closed: {unpaired} edges are not met as often one way as the other")
+        raise BadSolid(f"{called(file)}: error: not closed: {unpaired} edges do not occur equally often in both directions")
     volume = measures.volume(boundary)
     if volume.value <= 0:
         raise BadSolid(f"{called(file)}: error: its faces look inward: the volume is {measures.shown(*volume)}")

@@ -84,16 +84,16 @@ def say_bad(tool: str, bad: BadCall) -> None:
 
 def source_words(words: Words, made: str, ending: str) -> None:
     """The words of a tool that makes things of this kind and with this ending of sources."""
-    files = "an OpenSCAD source, also any word behind `--`; `-` is standard input"
+    files = "an OpenSCAD source; `-` is standard input; each word after `--` is a FILE"
     words.add_argument("files", nargs="*", metavar="FILE", help=files)
     words.add_argument("-o", dest="out", metavar="OUT", help=f"write the {made} to the file OUT, whole or not at all")
     words.add_argument(
         "-d",
         dest="folder",
         metavar="DIR",
-        help=f"write what is made of each FILE to DIR/NAME{ending}, and at the end say how many were right",
+        help=f"write the {made} of each FILE to DIR/NAME{ending}, and at the end print how many were made",
     )
-    words.add_argument("--half", action="store_true", help="lengths may lie on half units")
+    words.add_argument("--half", action="store_true", help="corners may lie at half units")
     words.add_argument(
         "-D",
         dest="definitions",
@@ -101,7 +101,7 @@ def source_words(words: Words, made: str, ending: str) -> None:
         action="append",
         type=definition,
         default=[],
-        help="assign a variable behind the source's own lines: this is what counts then",
+        help="assign a variable after the source's own lines, so that this value counts",
     )
     reading_words(words)
 
@@ -114,9 +114,9 @@ def reading_words(words: Words) -> None:
         metavar="DIR",
         action="append",
         default=[],
-        help="look in DIR too for what a source includes or uses, before the folders of OPENSCADPATH",
+        help="look in DIR too for files that a source includes or uses, before the folders of OPENSCADPATH",
     )
-    words.add_argument("--no-notes", action="store_true", help="don't say where OpenSCAD takes a source for another solid")
+    words.add_argument("--no-notes", action="store_true", help="don't note forms of which OpenSCAD makes another solid")
 
 
 def seconds_argument(text: str) -> float:
@@ -136,24 +136,24 @@ def front_end_words(words: Words) -> None:
     words.add_argument(
         "--by-openscad",
         action="store_true",
-        help="let OpenSCAD evaluate the source, and build the solid of its corners rounded to a grid; what is changed is told",
+        help="let OpenSCAD evaluate the source, and build the solid of its corners, rounded to a grid; changes are reported",
     )
     front_end_wishes(words, "with --by-openscad: ")
-    jobs_word(words, "with --by-openscad: how many tiles of a large part are made side by side")
+    jobs_word(words, "with --by-openscad: how many tiles of a large part are made at the same time")
 
 
 def front_end_wishes(words: Words, when: str = "") -> None:
     """What may be asked of a design that OpenSCAD has evaluated."""
-    words.add_argument("--exact", action="store_true", help=f"{when}refuse a slice that could be a hull alone")
-    words.add_argument("--flat", type=length_argument, metavar="H", help=f"{when}make a design in the plane H high")
-    words.add_argument("--strict", action="store_true", help=f"{when}take what OpenSCAD warns of, or leaves out, for a fault")
+    words.add_argument("--exact", action="store_true", help=f"{when}refuse a slice that can only be made as a hull")
+    words.add_argument("--flat", type=length_argument, metavar="H", help=f"{when}make a flat design H high")
+    words.add_argument("--strict", action="store_true", help=f"{when}treat what OpenSCAD warns of, or leaves out, as a fault")
     words.add_argument(
         "--tolerance",
         type=length_argument,
         metavar="D",
-        help=f"{when}refuse a solid that is off by more than D, else by more than a hundredth of its size",
+        help=f"{when}refuse a solid that is off by more than D; default: a hundredth of its size",
     )
-    of_fewer = "leave corners of curves out where planes of one source run out, however far that is off"
+    of_fewer = "leave out corners of curves if one source would have too many planes, however far off that is"
     words.add_argument("--fewer", action="store_true", help=f"{when}{of_fewer}")
 
 
@@ -171,7 +171,7 @@ def wanted_of(asked: argparse.Namespace) -> Wanted:
 
 def jobs_word(words: Words, what: str) -> None:
     """The word for how much is done side by side."""
-    words.add_argument("--jobs", type=_jobs, metavar="N", help=f"{what}; else as many as there are processors")
+    words.add_argument("--jobs", type=_jobs, metavar="N", help=f"{what}; default: one for each processor")
 
 
 def test_front_end(asked: argparse.Namespace) -> None:
@@ -180,7 +180,7 @@ def test_front_end(asked: argparse.Namespace) -> None:
         if getattr(asked, word) and not asked.by_openscad:
             raise BadCall(f"--{word} is for --by-openscad")
     if asked.half and asked.by_openscad:
-        raise BadCall("--by-openscad chooses its grid itself, so it takes no --half")
+        raise BadCall("--by-openscad chooses its grid itself, so --half can't be given with it")
 
 
 def _jobs(text: str) -> int:

@@ -77,7 +77,7 @@ def surface_of(boundary: Boundary, rings: Sequence[Ring], is_part: bool = False)
             rims.setdefault((min(p, q), max(p, q)), []).append(side)
     unpaired = pair(boundary.corners, rims, starts, twins, planes)
     if unpaired and not is_part:
-        raise NotClosed(f"not closed: {unpaired} edges are not met as often one way as the other")
+        raise NotClosed(f"not closed: {unpaired} edges do not occur equally often in both directions")
     nodes, places = nodes_of(starts, twins)
     return Surface(boundary.corners, places, nodes, twins, planes)
 

@@ -137,7 +137,7 @@ class _Gluing:
                 on_walls |= {p, q}
         unpaired = pair(corners, rims, self._starts, self._twins, self._planes)
         if unpaired:
-            raise NotClosed(f"not closed: {unpaired} edges between tiles are not met as often one way as the other")
+            raise NotClosed(f"not closed: {unpaired} edges between tiles do not occur equally often in both directions")
         nodes, places = nodes_of(self._starts, self._twins)
         surface = Surface(corners, places, nodes, self._twins, self._planes)
         return merged(surface, [node for node, place in enumerate(places) if place in on_walls])

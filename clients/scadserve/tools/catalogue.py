@@ -41,7 +41,7 @@ def _starter_words() -> Words:
     words.add_argument("--workers", metavar="N", help="how many workers an export may have, 1 to 64; else 4")
     words.add_argument("--memo", metavar="W", help="how much the memo of solids may hold, 0 to 2,000,000; else 500,000")
     words.add_argument("--share", metavar="S", help="what of it is kept for each client, 0 to 125,000, 16 S at most W; else 0")
-    words.add_argument("--half", action="store_true", help="lengths may lie on half units")
+    words.add_argument("--half", action="store_true", help="corners may lie at half units")
     words.add_argument("--tally", action="store_true", help="end the output with a line that says what the memo did")
     return words
 

@@ -21,9 +21,9 @@ from ..source.lengths import unit_argument
 from ..tiles.cutting import Limits
 from ..tiles.folder import write_folder
 
-_DESCRIPTION = """Writes a source of scad2off for the evaluated form that openscad --render -o part.csg part.scad writes: each
-convex leaf becomes the hull of its corners, rounded to a grid. What was changed is said on standard error."""
-_EPILOG = "The status is 0 where all was written, 1 where the design can't be converted, 2 where words or files are faulty."
+_DESCRIPTION = """Converts the evaluated form that openscad --render -o part.csg part.scad writes to a source for scad2off: each
+convex leaf becomes the hull of its corners, rounded to a grid. Changes are reported on standard error."""
+_EPILOG = "The status is 0 if all was written, 1 if the design can't be converted, 2 if words or files are faulty."
 
 
 def main(words: Sequence[str]) -> int:
@@ -34,18 +34,18 @@ def main(words: Sequence[str]) -> int:
 def parser() -> Words:
     """The words that there are."""
     words = Words("csg2scad", _DESCRIPTION, _EPILOG)
-    words.add_argument("file", nargs="?", default="-", metavar="FILE.csg", help="else standard input")
-    words.add_argument("-o", dest="out", metavar="FILE", default="-", help="the source to write; else standard output")
+    words.add_argument("file", nargs="?", default="-", metavar="FILE.csg", help="the evaluated form; default: standard input")
+    words.add_argument("-o", dest="out", metavar="FILE", default="-", help="the source to write; default: standard output")
     words.add_argument(
-        "--unit", type=unit_argument, help="the step of the grid in OpenSCAD's lengths, as 1/20; else it is chosen"
+        "--unit", type=unit_argument, help="the step of the grid in OpenSCAD's lengths, such as 1/20; default: it is chosen"
     )
     of_tiles = "write a source for each tile of the design to the new folder DIR; off2join joins their texts"
     words.add_argument("--tiles", metavar="DIR", help=of_tiles)
-    of_planes = f"take at most N planes; default: {PLANES}, or {Limits().planes} for a tile"
+    of_planes = f"use at most N planes; default: {PLANES}, or {Limits().planes} for a tile"
     words.add_argument("--planes", type=_count, metavar="N", help=of_planes)
-    jobs_word(words, "how many pieces of the design are cut into tiles side by side")
+    jobs_word(words, "how many pieces of the design are cut into tiles at the same time")
     front_end_wishes(words)
-    words.add_argument("--folder", metavar="DIR", help="where the files that the design imports are; else where FILE.csg is")
+    words.add_argument("--folder", metavar="DIR", help="the folder of the files that the design imports; default: FILE.csg's")
     return words
 
 
@@ -60,7 +60,7 @@ def _told(words: Sequence[str]) -> int:
 def _converted(asked: argparse.Namespace) -> int:
     name = called(asked.file)
     if asked.tiles is not None and (asked.fewer or asked.out != "-"):
-        raise BadCall("--tiles writes many sources, with all corners, so it takes no -o and no --fewer")
+        raise BadCall("--tiles writes many sources, with all corners, so -o and --fewer can't be given with it")
     text = _text(asked.file, asked.out)
     wanted = replace(wanted_of(asked), unit=asked.unit, planes=asked.planes or PLANES)
     front = Front(asked.folder or os.path.dirname(os.path.abspath(asked.file)), asked.strict)
@@ -73,8 +73,8 @@ def _converted(asked: argparse.Namespace) -> int:
         say(f"{name}:{fault.line}:{fault.column}: error: {fault.word}: {fault.said}\n")
         return PART_FAULT
     if isinstance(found, Design):
-        say(f"{name}: error: TooManyPlanes: it has more planes or shapes than a source may have\n")
-        say("    cure: --tiles DIR writes it as many sources, and --fewer leaves corners of curves out\n")
+        say(f"{name}: error: TooManyPlanes: the design has more planes or shapes than a source may have\n")
+        say("    cure: --tiles DIR writes it as many sources, and --fewer leaves out corners of curves\n")
         return PART_FAULT
     say(conversion_told(name, found))
     write_out(asked.out, found.text)
@@ -93,7 +93,7 @@ def _tiles_written(asked: argparse.Namespace, name: str, design: Design) -> int:
     except OSError as error:
         raise BadCall(f"cannot write to the folder {asked.tiles}: {error.strerror}") from error
     say(conversion_told(name, design))
-    say(f"{name}: {count} tiles in {asked.tiles}: scad2off --allow-empty -d DIR makes their texts, and off2join joins these\n")
+    say(f"{name}: {count} tiles in {asked.tiles}: scad2off --allow-empty -d DIR makes their texts, and off2join joins them\n")
     say(warnings_told(name, design.warnings))
     return 0
 

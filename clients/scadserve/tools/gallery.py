@@ -65,9 +65,9 @@ _INTRODUCTION = """# Gallery
 {count} parts with their sources. `scad2off gallery/NAME.scad -o gallery/NAME.4off` made each part, and
 `off2svg gallery/NAME.4off -o gallery/NAME.svg` made its picture. `off2html gallery/NAME.4off -o gallery/NAME.html` made a page
 that turns the part by mouse, touch or keys and shows its corners. Triangles are those of `off2stl`. Boxes and volumes are
-exact, in units and cubic units, and a test works each of them out by hand. The last {rounds} are round: OpenSCAD evaluates the
-files in `gallery/openscad/`, and `gallery/NAME.scad` is what `csg2scad` makes of the result. `tools/gallery.sh` makes all files
-again, this page too, and `tools/gallery.sh --compare` compares them.
+exact, in units and cubic units; a test compares them with values computed by hand. The last {rounds} are round: OpenSCAD
+evaluates the files in `gallery/openscad/`, and `csg2scad` makes `gallery/NAME.scad` of the result. `tools/gallery.sh` makes all
+files again, including this page, and `tools/gallery.sh --compare` compares them.
 
 | Part | Faces | Triangles | Box | Volume |
 |---|---|---|---|---|

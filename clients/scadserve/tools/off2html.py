@@ -22,10 +22,10 @@ from ..view.page import BEGINS, Shown, page
 from .off2svg import degrees
 
 TOOL = "off2html"
-_DESCRIPTION = "Shows the solid of a 4OFF text in one page, to turn, move and zoom."
-_VIEW_HELP = "the degrees of the first view to the right of the front, and above it; else 30 30"
-_UNIT_HELP = "how many millimetres a unit is: 1/10, 25.4; else the page tells lengths in units"
-_WATCH_HELP = "write the page again whenever FILE changes, until Ctrl-C; the page loads itself again"
+_DESCRIPTION = "Writes a page that shows the solid of a 4OFF text, to turn, move and zoom it."
+_VIEW_HELP = "the first view, in degrees to the right of the front and above it; default: 30 30"
+_UNIT_HELP = "the length of a unit in millimetres: 1/10, 25.4; default: the page shows lengths in units"
+_WATCH_HELP = "write the page again whenever FILE changes, until Ctrl-C; the page reloads itself"
 # The endings of sources, of solids and of pictures.
 _OTHERS = (".scad", ".4off", ".stl", ".3mf", ".obj", ".off", ".svg", ".png", ".jpg", ".pdf")
 # Seconds between two looks at a watched file.
@@ -59,9 +59,9 @@ def _show(words: Sequence[str]) -> None:
     own = parser()
     asked = own.parse_args(words)
     if os.path.splitext(asked.out)[1].lower() in _OTHERS:
-        own.error(f"{asked.out} would be a page, and has another ending")
+        own.error(f"{asked.out} would be a page, but has another ending")
     if asked.watch and "-" in (asked.file, asked.out):
-        own.error("--watch reads a FILE again and again, and writes one: say FILE and -o OUT")
+        own.error("--watch needs a file to read again and a file to write: give FILE and -o OUT")
     stamp = _stamp(asked.file)
     with off2tool.nothing_old(asked.out, (BEGINS,)):
         solid = _read(asked)
@@ -94,9 +94,9 @@ def _watch(asked: Namespace, stamp: Stamp, solid: Shown) -> NoReturn:
         try:
             solid = _read(asked)
         except (BadCall, BadSolid) as fault:
-            notice = f"{fault}. This is the solid from before."
+            notice = f"{fault}. This is the previous solid."
             tool = f"{TOOL}: " if isinstance(fault, BadCall) else ""
-            say(f"{tool}{fault}; {called(asked.out)} shows the solid from before\n")
+            say(f"{tool}{fault}; {called(asked.out)} shows the previous solid\n")
         write_out(asked.out, page(solid, True, notice))
 
 

@@ -17,7 +17,7 @@ from ..solid import closing
 from ..solid.crossings import Crossings, NoBoundary
 
 TOOL = "off2in"
-_DESCRIPTION = "Tells whether points are in the solid of a 4OFF text, out of it or on its faces, exactly."
+_DESCRIPTION = "Tells exactly whether points are in the solid of a 4OFF text, out of it, or on its faces."
 _NUMBER = re.compile(r"-?[0-9]{1,40}(?:\.[0-9]{1,40}|/0*[1-9][0-9]{0,39})?")
 
 
@@ -42,7 +42,7 @@ def parser() -> Words:
         nargs="+",
         type=_point,
         metavar="X,Y,Z",
-        help="a point in units: whole or decimal numbers, or fractions as 1/3",
+        help="a point in units: whole or decimal numbers, or fractions such as 1/3",
     )
     return words
 

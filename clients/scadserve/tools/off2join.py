@@ -18,9 +18,8 @@ from ..tiles.gluing import glued
 from ..tiles.joined import text_of
 
 TOOL = "off2join"
-_DESCRIPTION = """Puts the texts of a design's tiles together: NAME.4off of each NAME.scad in a folder that csg2scad --tiles has
-written."""
-_EPILOG = """The status is 0 where all was written, 1 where a text is missing or isn't its tile's, 2 where words or files are
+_DESCRIPTION = """Joins the texts of a design's tiles: NAME.4off for each NAME.scad in a folder that csg2scad --tiles wrote."""
+_EPILOG = """The status is 0 if all was written, 1 if a text is missing or is not that of its tile, 2 if words or files are
 faulty."""
 _SHOWN = 8
 
@@ -33,10 +32,10 @@ def main(words: Sequence[str]) -> int:
 def parser() -> Words:
     """The words that there are."""
     words = Words(TOOL, _DESCRIPTION, _EPILOG)
-    of_folders = "the folder that csg2scad wrote, and those in which texts are, if not in it"
+    of_folders = "the folder that csg2scad wrote, and the folders with the texts, if they are elsewhere"
     words.add_argument("folders", nargs="+", metavar="DIR", help=of_folders)
-    words.add_argument("-o", dest="out", metavar="OUT", default="-", help="the file to write; else standard output")
-    jobs_word(words, "how many texts are read side by side")
+    words.add_argument("-o", dest="out", metavar="OUT", default="-", help="the file to write; default: standard output")
+    jobs_word(words, "how many texts are read at the same time")
     return words
 
 
@@ -57,9 +56,9 @@ def _join(words: Sequence[str]) -> None:
     except BadTile as fault:
         raise BadSolid(str(fault), 1) from None
     except NotClosed as fault:
-        raise BadSolid(f"{folder}: error: the texts of its tiles make no whole: {fault}", 1) from None
+        raise BadSolid(f"{folder}: error: the texts of its tiles do not fit together: {fault}", 1) from None
     write_out(asked.out, text_of(surface).text)
-    told = f"{len(index.tiles)} tiles joined to a closed surface of {len(surface.planes)} triangles, which is checked"
+    told = f"{len(index.tiles)} tiles joined to a surface of {len(surface.planes)} triangles, which was checked to be closed"
     say(f"{folder}: {told}; print by off2stl --unit {index.unit}\n")
 
 

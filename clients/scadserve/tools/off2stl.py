@@ -18,7 +18,7 @@ from ..solid.formats import BEGINS, WRITERS
 from ..source.lengths import MILLIMETRE
 
 TOOL = "off2stl"
-_DESCRIPTION = "Writes the solids of 4OFF texts as closed surfaces of triangles, and tells of each in a line."
+_DESCRIPTION = "Writes the solids of 4OFF texts as closed surfaces of triangles, and prints a line about each."
 
 
 def main(words: Sequence[str]) -> int:
@@ -51,11 +51,11 @@ def _write(asked: Namespace, file: str, out: str) -> None:
 def parser() -> Words:
     """The words that there are."""
     words = Words(TOOL, _DESCRIPTION)
-    words.add_argument("files", nargs="*", metavar="FILE", help="a 4OFF text; else standard input, as `-` is")
-    words.add_argument("-o", dest="out", metavar="OUT", help="the file to write; else standard output")
-    words.add_argument("-d", dest="folder", metavar="DIR", help="write each solid to DIR/NAME.stl, or the ending of its format")
+    words.add_argument("files", nargs="*", metavar="FILE", help="a 4OFF text; default: standard input, which `-` names too")
+    words.add_argument("-o", dest="out", metavar="OUT", help="the file to write; default: standard output")
+    words.add_argument("-d", dest="folder", metavar="DIR", help="write each solid to DIR/NAME.stl, or with its format's ending")
     mesh_words(words)
-    words.add_argument("--info", action="store_true", help="print the lines of counts alone, on standard output")
+    words.add_argument("--info", action="store_true", help="print only the lines of counts, on standard output")
     return words
 
 
@@ -66,7 +66,7 @@ def _read_words(words: Sequence[str]) -> Namespace:
     asked.files = asked.files or ["-"]
     test_outs(asked, "a mesh", {})
     if asked.info and (asked.out is not None or asked.folder is not None):
-        own.error("--info writes no solid, so it takes no -o and no -d")
+        own.error("--info writes no solid, so -o and -d can't be given with it")
     if len(asked.files) > 1 and asked.folder is None and not asked.info:
         own.error("several FILEs need -d DIR")
     asked.format = format_of(own, asked)

@@ -12,8 +12,8 @@ from ..calls.words import Words, write_out
 from ..solid import closing
 from ..view.drawing import VIEW, Camera, drawing
 
-_VIEW_HELP = "the degrees of the viewer to the right of the front, and above it; else 30 30"
-_DESCRIPTION = "Draws the solid of a 4OFF text of the server in SVG."
+_VIEW_HELP = "the place of the viewer, in degrees to the right of the front and above it; default: 30 30"
+_DESCRIPTION = "Draws the solid of a 4OFF text in SVG."
 # The endings of sources, of solids and of other pictures.
 _OTHERS = (".scad", ".4off", ".stl", ".3mf", ".obj", ".off", ".png", ".jpg", ".pdf")
 
@@ -27,7 +27,7 @@ def parser() -> Words:
     """The words that there are."""
     words = off2tool.off_words("off2svg", _DESCRIPTION)
     words.add_argument("--view", nargs=2, type=degrees, default=VIEW, metavar=("AZ", "EL"), help=_VIEW_HELP)
-    words.add_argument("--width", type=_pixels, default=480, metavar="PX", help="the width in pixels, else 480")
+    words.add_argument("--width", type=_pixels, default=480, metavar="PX", help="the width in pixels; default: 480")
     return words
 
 
@@ -35,7 +35,7 @@ def _draw(words: Sequence[str]) -> None:
     own = parser()
     asked = own.parse_args(words)
     if os.path.splitext(asked.out)[1].lower() in _OTHERS:
-        own.error(f"{asked.out} would be an SVG picture, and has another ending")
+        own.error(f"{asked.out} would be an SVG picture, but has another ending")
     with off2tool.nothing_old(asked.out, (b"<svg ",)):
         boundary = off2tool.read(asked.file, asked.out)
         rings = closing.close(boundary)

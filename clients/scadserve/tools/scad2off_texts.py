@@ -49,11 +49,11 @@ def _script_written(call: Call) -> int:
         return max(statuses)
     for it in parts:
         if isinstance(it.source, LargeSource):
-            said = "is made by tiles, and --script prints the script of one source (--fewer makes it one)"
+            said = "is made by tiles, but --script prints the script of one source (--fewer makes one)"
             raise BadCall(f"{it.source.name} {said}")
     scripts = [bytes(it.script) for it in batches([it.source.sent() for it in parts], call.half)]
     if len(scripts) != 1:
-        raise BadCall(f"these files make {len(scripts)} scripts, and --script prints one")
+        raise BadCall(f"these files make {len(scripts)} scripts, but --script prints one")
     write_out(call.outs[0], scripts[0])
     return 0
 
@@ -66,5 +66,5 @@ def _text_written(tool: str, source: Source, out: str, solid: Solid) -> int:
         return BAD_CALL
     length = (source.unit or MILLIMETRE) * source.step
     if source.step != MILLIMETRE:
-        say(f"{source.name}: a length of its text is {shown(length)} mm, so its mesh comes of off2stl --unit {length}\n")
+        say(f"{source.name}: a unit of its text is {shown(length)} mm, so make its mesh by off2stl --unit {length}\n")
     return 0

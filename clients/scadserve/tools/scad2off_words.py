@@ -10,9 +10,9 @@ from ..ending import BadCall
 
 DESCRIPTION = "Prints the 4OFF text of the solid that an OpenSCAD source describes, or its first fault."
 STATUSES = (
-    "The status is 0 where all went well, 1 where a part has a fault, 2 where the words are wrong or a file can't be read "
-    "or written, 6 where memory ran out, 125 where the server gave no answer, 127 where it doesn't start, 130 after "
-    "Ctrl-C, and else that of the server. SCADSERVE in the environment names another server than ./scadserve."
+    "The status is 0 if all went well, 1 if a part has a fault, 2 if the words are wrong or a file can't be read or "
+    "written, 6 if memory ran out, 125 if the server gave no answer, 127 if it does not start, 130 after Ctrl-C, and "
+    "otherwise that of the server. SCADSERVE in the environment names a server to use in place of ./scadserve."
 )
 # What a file of another ending is, which no 4OFF text has.
 OTHERS = {
@@ -29,11 +29,11 @@ def parser() -> Words:
     source_words(words, "text", ".4off")
     front_end_words(words)
     words.add_argument(
-        "--allow-empty", action="store_true", help="take a source that makes no solid at all, and write its empty text"
+        "--allow-empty", action="store_true", help="accept a source whose solid is empty, and write the text of the empty solid"
     )
-    words.add_argument("--script", action="store_true", help="print the script that the server would be given")
+    words.add_argument("--script", action="store_true", help="print the script that would be sent to the server")
     words.add_argument(
-        "--explain", metavar="WORD", help="say what the word of a fault, or the form of a note, means, with an example"
+        "--explain", metavar="WORD", help="explain the word of a fault, or the form of a note, with an example"
     )
     return words
 

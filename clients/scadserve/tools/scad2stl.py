@@ -16,8 +16,8 @@ from ..ending import BadCall, ended
 from .scad2off_words import STATUSES
 
 TOOL = "scad2stl"
-_DESCRIPTION = "Writes the solids that OpenSCAD sources describe as closed surfaces of triangles, or tells their first faults."
-_UNITS = "A unit is what --unit says, else what a comment in the source does, // unit: 1/10, else a millimetre. "
+_DESCRIPTION = "Writes the solids that OpenSCAD sources describe as closed surfaces of triangles, or prints their first faults."
+_UNITS = "--unit gives the unit, or else a comment in the source, // unit: 1/10; the default is a millimetre. "
 # What a file of another ending is, which no mesh has.
 _OTHERS = {
     ".4off": "scad2off makes a 4OFF text of a source",
@@ -42,7 +42,7 @@ def _do(words: Sequence[str]) -> int:
 def parser() -> Words:
     """The words that there are."""
     words = Words(TOOL, _DESCRIPTION, _UNITS + STATUSES)
-    source_words(words, "mesh", ".stl, or the ending of its format")
+    source_words(words, "mesh", ".stl, or with the ending of its format")
     mesh_words(words)
     front_end_words(words)
     return words

@@ -24,13 +24,13 @@ from ..source.joining import folders_of_environment
 
 TOOL = "scadlive"
 _DESCRIPTION = (
-    "Serves a page in which OpenSCAD sources are edited and their solids turn, for many browsers and programs at "
+    "Serves a page in which OpenSCAD sources are edited and their solids are shown, for many browsers and programs at "
     "once."
 )
 _STATUSES = (
-    "It goes on until Ctrl-C. The status is 2 where the words are wrong, the folder can't be read or nothing can listen there, "
-    "and 130 after Ctrl-C. SCADSERVE in the environment names another server than ./scadserve, and SCADLIVE_TOKEN the token. "
-    "docs/LIVE.md says what programs ask for, and who may come in."
+    "It runs until Ctrl-C. The status is 2 if the words are wrong, the folder can't be read or nothing can listen at that "
+    "address, and 130 after Ctrl-C. SCADSERVE in the environment names a server to use in place of ./scadserve, and "
+    "SCADLIVE_TOKEN the token. docs/LIVE.md describes the requests of programs, and who has access."
 )
 _PORT = 4780
 _LOOPBACK = "127.0.0.1"
@@ -49,31 +49,31 @@ def parser() -> Words:
         nargs="?",
         default=".",
         metavar="FILE",
-        help="a source to begin with, or the folder of the sources; else this folder",
+        help="a source to begin with, or the folder of the sources; default: the working directory",
     )
     words.add_argument(
-        "--port", type=_port, default=_PORT, metavar="N", help=f"the port, where 0 takes a free one; else {_PORT}"
+        "--port", type=_port, default=_PORT, metavar="N", help=f"the port; 0 takes a free one; default: {_PORT}"
     )
     words.add_argument("--open", action="store_true", help="open the page in a browser")
     words.add_argument(
-        "--jobs", type=_jobs, default=2, metavar="N", help="how many runs of the server go side by side, 1 to 64; else 2"
+        "--jobs", type=_jobs, default=2, metavar="N", help="how many runs of the server there are at once, 1 to 64; default: 2"
     )
-    words.add_argument("--seconds", type=_seconds, default=10.0, metavar="S", help="a run that takes longer is ended; else 10")
-    words.add_argument("--half", action="store_true", help="lengths may lie on half units")
+    words.add_argument("--seconds", type=_seconds, default=10.0, metavar="S", help="end a run after S seconds; default: 10")
+    words.add_argument("--half", action="store_true", help="corners may lie at half units")
     words.add_argument(
         "-I",
         dest="folders",
         metavar="DIR",
         action="append",
         default=[],
-        help="look in DIR too for what a source includes or uses",
+        help="look in DIR too for files that a source includes or uses",
     )
     words.add_argument(
-        "--bind", metavar="ADDRESS", default=_LOOPBACK, help="listen on another address than 127.0.0.1, which takes a token"
+        "--bind", metavar="ADDRESS", default=_LOOPBACK, help="the address to listen on; default: 127.0.0.1; others need a token"
     )
-    words.add_argument("--token", metavar="TOKEN", help="answer only who has this token")
+    words.add_argument("--token", metavar="TOKEN", help="answer only requests that have this token")
     words.add_argument(
-        "--base", metavar="URL", default="", help="where a proxy shows the page: https://example.org/live, or its path /live"
+        "--base", metavar="URL", default="", help="where a proxy shows the page: https://example.org/live, or the path /live"
     )
     return words
 
@@ -82,9 +82,9 @@ def _do(words: Sequence[str]) -> int:
     asked = parser().parse_args(words)
     token = os.environ.get("SCADLIVE_TOKEN") if asked.token is None else asked.token
     if token is not None and not re.fullmatch(r"[!-~]{8,200}", token):
-        raise BadCall("a token is 8 to 200 letters, digits and signs, without a blank")
+        raise BadCall("a token has 8 to 200 letters, digits and signs, without a blank")
     if not _address(asked.bind).is_loopback and token is None:
-        raise BadCall(f"--bind {asked.bind} lets other machines in, so it takes --token or SCADLIVE_TOKEN")
+        raise BadCall(f"--bind {asked.bind} lets other machines in, so it needs --token or SCADLIVE_TOKEN")
     folder, first = _folder(asked.file)
     libraries = [os.path.abspath(it) for it in asked.folders]
     server = [os.path.abspath(it) if os.path.dirname(it) else it for it in server_of_environment()]
@@ -153,7 +153,7 @@ def _settings(asked: Namespace, port: int, token: str | None) -> Settings:
         raise BadCall(f"--base {asked.base} is neither an address with http or https nor a path")
     path = base.path.rstrip("/")
     if not re.fullmatch(r"(?:/[A-Za-z0-9._~-]+)*", path) or base.query or base.fragment:
-        raise BadCall(f"the path of --base {asked.base} has other signs than letters, digits, . _ ~ and -")
+        raise BadCall(f"the path of --base {asked.base} has characters other than letters, digits, . _ ~ and -")
     outside = frozenset() if is_path or not asked.base else frozenset({f"{base.scheme}://{base.netloc}"})
     hosts |= {base.netloc.lower()} if outside else set()
     return Settings(frozenset(hosts), outside, _address(asked.bind).is_unspecified, path, token)
@@ -163,7 +163,7 @@ def _address(text: str) -> ipaddress.IPv4Address | ipaddress.IPv6Address:
     try:
         return ipaddress.ip_address(text)
     except ValueError:
-        raise BadCall(f"--bind {text} is not an address in numbers, as 127.0.0.1 or ::1") from None
+        raise BadCall(f"--bind {text} is not an address in numbers, such as 127.0.0.1 or ::1") from None
 
 
 def _host(address: str) -> str:

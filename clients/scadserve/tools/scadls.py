@@ -14,26 +14,25 @@ from ..server.processes import server_of_environment
 
 TOOL = "scadls"
 DESCRIPTION = (
-    "Tells an editor of OpenSCAD sources while one types, by the Language Server Protocol on standard input and "
+    "Reports faults of OpenSCAD sources to an editor while you type, by the Language Server Protocol on standard input and "
     "output."
 )
 STATUSES = (
-    "The status is 0 where the editor has ended the conversation as the protocol says it, 1 where it has broken off, and 2 "
-    "where "
-    "the words are wrong. SCADSERVE in the environment names another server than ./scadserve."
+    "The status is 0 if the editor ended the conversation as the protocol requires, 1 if it broke off, and 2 if the words "
+    "are wrong. SCADSERVE in the environment names a server to use in place of ./scadserve."
 )
 
 
 def parser() -> Words:
     """The words that there are."""
     words = Words(TOOL, DESCRIPTION, STATUSES)
-    words.add_argument("--half", action="store_true", help="lengths may lie on half units")
+    words.add_argument("--half", action="store_true", help="corners may lie at half units")
     reading_words(words)
     words.add_argument(
         "--seconds", type=seconds_argument, default=10.0, metavar="S", help="end an export after S seconds; default: 10"
     )
     words.add_argument(
-        "--stdio", action="store_true", help="no effect: some editors say so that they use standard input and output"
+        "--stdio", action="store_true", help="no effect; some editors give it to say that they use standard input and output"
     )
     return words
 

@@ -256,14 +256,7 @@ fn two_callers<R: Threads + Wait + Sync>(
     let core = MemoCore::new(alloc, Pieces, LastDigits, limits.budget, limits.share)?;
     let blanks = Blanks::new(2);
     let claims = FlightBlanks::beside(&blanks);
-    run::<Brand, Brand, Brand, Brand, Brand, Brand, R>(
-        rt,
-        alloc,
-        core,
-        blanks,
-        claims,
-        acts,
-    )
+    run::<Brand, Brand, Brand, Brand, Brand, Brand, R>(rt, alloc, core, blanks, claims, acts)
 }
 
 // How often callers are run, and the report on them.
