@@ -86,13 +86,8 @@ def clients_table(text: str) -> list[str]:
     ]
 
 
-def worst_table(text: str) -> list[str]:
-    """The rows of bench/worst.sh, which are those of a table."""
-    return [it for it in text.splitlines() if it.startswith("|")]
-
-
-def maker_table(text: str) -> list[str]:
-    """The rows of bench/maker.py."""
+def printed_table(text: str) -> list[str]:
+    """The rows of a measurement that prints a table."""
     return [it for it in text.splitlines() if it.startswith("|")]
 
 
@@ -147,7 +142,7 @@ SECTIONS = (
         "`sh bench/worst.sh --largest` times sources that are written to be costly, with one worker, by the clock. The "
         "table has the largest of each family. If the seconds grow as a power of n, the growth is its exponent, computed "
         "from the size before. RECIPES says how a service [sets limits](RECIPES.md#a-service-under-limits).",
-        worst_table,
+        printed_table,
     ),
     Section(
         "maker",
@@ -155,7 +150,16 @@ SECTIONS = (
         "How long do a maker's parts take?",
         "`python3 bench/maker.py` makes ten typical parts of a maker, compares the box and the volume with OpenSCAD's, "
         "and times both programs by the clock.",
-        maker_table,
+        printed_table,
+    ),
+    Section(
+        "tiles",
+        ("python3", "bench/tiles.py", "growth", "--jobs", "1"),
+        "How long do designs by tiles take, and how does the time grow?",
+        "`python3 bench/tiles.py growth --jobs 1` makes squares of 2 to 96 balls with bores, at one density, "
+        "[by tiles](OPENSCAD.md#any-size-by-tiles). The processor seconds are those to cut the design into pieces, to make "
+        "the tiles of the pieces with the server and read their texts, and to join these.",
+        printed_table,
     ),
 )
 
@@ -175,7 +179,8 @@ Each script prints its results; the comment at its head says how it measures.
 | `sh bench/series.sh` | instructions and memory of solids, facets and texts, and how they grow |
 | `sh bench/geometry.sh` | sides and cuts in a second, beside the same sums in plain Rust (it needs `rustc`) |
 | `tools/compare-openscad.py` | the times of parts with both programs, as in [OPENSCAD.md](OPENSCAD.md#compared-with-openscad) |
-| `python3 bench/tiles.py` | the times of designs by tiles, and how they grow |
+| `python3 bench/tiles.py sizes` | the times of two designs by tiles of several sizes |
+| `python3 bench/tiles.py chance` | whether designs by chance are the same with two sizes of tiles, and as one source |
 | `sh bench/memo.sh` | probes and fills of the memo in a second, with 64, 512 and 4,096 entries |
 | `sh bench/syntax.sh` | bytes that are lexed and parsed in a second, of ordinary and of dense sources |
 | `sh bench/functions.sh` | calls of a recursive function, and indexes of a list, in a second |

@@ -48,7 +48,7 @@ class Tables(unittest.TestCase):
         edits = ["| 100 parts | first | 7.3 | 44.1 | 1.00 |", "|  | the same again | 1.7 | 9.1 | 0.21 |"]
         self.assertEqual(figures.edits_table(EDITS)[2:], edits)
         self.assertEqual(figures.clients_table(CLIENTS)[2:], ["| 8, own designs | 4 | 1 | 50.0 | 58.0 |"])
-        self.assertEqual(figures.worst_table("| a | b |\nelse\n"), ["| a | b |"])
+        self.assertEqual(figures.printed_table("| a | b |\nelse\n"), ["| a | b |"])
 
 
 class Page(unittest.TestCase):

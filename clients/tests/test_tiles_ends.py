@@ -14,7 +14,7 @@ from fractions import Fraction
 from unittest import mock
 
 from scadserve.openscad.conversion import Conversion, Wanted, converted, of_any_size
-from scadserve.openscad.exact_hull import hull
+from scadserve.openscad.exact_hull import hull, volume6
 from scadserve.openscad.fineness import fits
 from scadserve.openscad.front import Front
 from scadserve.openscad.reader import CsgFault, read
@@ -24,7 +24,7 @@ from scadserve.solid import measures
 from scadserve.tiles.cutting import Limits
 from scadserve.tiles.dividing import pieces, sources
 from scadserve.tiles.joined import boundary_of
-from scadserve.tiles.making import _Solver, made
+from scadserve.tiles.making import Solver, made
 from scadserve.tiles.progress import Progress
 from tests import chance
 from tests.calls import PROGRAM, TOP, Calls, needs_program
@@ -76,7 +76,7 @@ class Limited(unittest.TestCase):
 
     def test_the_tile_that_cannot_be_halved_is_told_with_its_place(self):
         grid = Join(UNION, [chance.box((at, 0, 0), (1, 1, 1)) for at in range(3)])
-        solver = _Solver([], Limits(), None)
+        solver = Solver([], Limits(), None)
         solver._replies = lambda of_tiles: [Complex("sum", 1)] * len(of_tiles)
         with self.assertRaises(CsgFault) as caught:
             for it in pieces(grid, Limits()):
@@ -166,6 +166,23 @@ class Finer(unittest.TestCase):
         # (where a unit is asked for, that is the grid)
         found = of_any_size(read(text), Wanted(unit=found.unit), Front("."))
         self.assertEqual((found.unit, found.steps), (Fraction(1, 200), 1))
+
+    @needs_program
+    def test_a_ball_has_the_volume_of_its_rings_at_half_angles(self):
+        found = of_any_size(read(f"sphere($fn = 48, {FINE}, r = 5);"), Wanted(), Front("."))
+        self.assertEqual((found.unit, found.steps), (Fraction(1, 500), 1))
+        volume = measures.volume(boundary_of(made(found.grid, [PROGRAM], 1).surface)).value
+        # (24 rings of 48 corners; between two of them is a frustum, and a ring's area is that of a regular polygon)
+        rings = [(5 * math.cos(turn), 5 * math.sin(turn)) for turn in (math.pi * (at + 0.5) / 24 for at in range(24))]
+        area = 24 * math.sin(math.pi / 24)
+        whole = sum(area * (z - y) * (r * r + r * s + s * s) / 3 for (z, r), (y, s) in zip(rings, rings[1:]))
+        # (each point of the surface, which is less than the sphere's, is off by what a corner moves at most)
+        self.assertLess(found.off, 0.866 / 500)
+        self.assertAlmostEqual(float(volume) / 500**3, whole, delta=4 * math.pi * 5**2 * found.off)
+        # (and exactly it is that of the hull of the rounded corners)
+        ways = [(math.cos(turn), math.sin(turn)) for turn in (math.pi * at / 24 for at in range(48))]
+        corners = [(round(500 * r * x), round(500 * r * y), round(500 * z)) for z, r in rings for x, y in ways]
+        self.assertEqual(volume, Fraction(volume6(hull(corners)), 6))
 
     @needs_program
     def test_a_ball_and_a_rod_on_the_finer_grid_have_their_volume(self):

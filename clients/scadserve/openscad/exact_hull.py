@@ -153,20 +153,21 @@ def tetrahedron(points: Sequence[Point]) -> tuple[int, int, int, int] | None:
     if len(points) < 4:
         return None
     base = points[0]
-
-    def away(point: Point) -> Point:
-        return less(point, base)
-
-    numbers = range(len(points))
-    second = max(numbers, key=lambda it: _square(away(points[it])))
-    along = away(points[second])
-    third = max(numbers, key=lambda it: _square(cross(along, away(points[it]))))
-    normal = cross(along, away(points[third]))
-    heights = [dot(normal, away(it)) for it in points]
-    fourth = max(numbers, key=lambda it: abs(heights[it]))
+    ways = [less(it, base) for it in points]
+    second = _of_greatest(list(map(_square, ways)))
+    along = ways[second]
+    third = _of_greatest([_square(cross(along, it)) for it in ways])
+    normal = cross(along, ways[third])
+    heights = [dot(normal, it) for it in ways]
+    fourth = _of_greatest(list(map(abs, heights)))
     if heights[fourth] == 0:
         return None
     return (0, second, third, fourth) if heights[fourth] < 0 else (0, third, second, fourth)
+
+
+def _of_greatest(numbers: list[int]) -> int:
+    """The place of the first of the greatest numbers."""
+    return numbers.index(max(numbers))
 
 
 def _with_facets(points: Sequence[Point], triangles: Sequence[_Triangle]) -> Hull:

@@ -63,6 +63,7 @@ class Extrusion:
         self._is_fewer = self._may_cut = False
         self._around: list[tuple[float, float]] = []
         self._known: dict[tuple[Flat, ...], tuple[list[Loop], Carving | None]] = {}
+        self._have_parts: dict[tuple[tuple[Flat, ...], float, float, tuple[bool, ...]], bool] = {}
 
     def solid(self) -> Solid | None:
         """The solid; None where it has no height."""
@@ -279,7 +280,7 @@ class Extrusion:
         is_hull = found.is_hull()
         off = found.sides_off() if isinstance(self._plan, Join) or self._is_fewer else 0.0
         off = off if is_hull else found.hull_off()
-        parts = found.parts(self._node) if self._may_cut and not is_hull and off > self._detail.most else None
+        parts = self._parts(found, piece, low, high) if self._may_cut and not is_hull and off > self._detail.most else None
         if parts is not None:
             return self._dented(found, set(), parts)
         self._detail.is_off_besides(off)
@@ -317,14 +318,29 @@ class Extrusion:
             inner = [{at for at, it in enumerate(_sides(piece)) if it not in outer} for piece in cut]
             # (where each would also be seen from a point with a dent at each side that another piece is at, these have no other
             # dents in common, so that each of them fills those of the others)
-            are_filled = all(it.hollow(sorted(some)).parts(self._node) is not None for it, some in zip(found, inner))
-            for it, some in zip(found, inner):
-                make = it.parts(self._node)
+            are_filled = all(
+                self._parts(it.hollow(sorted(some)), piece, low, high) is not None for piece, it, some in zip(cut, found, inner)
+            )
+            for piece, it, some in zip(cut, found, inner):
+                make = self._parts(it, piece, low, high)
                 if make is None:
                     return pieces
                 whole = self._leaf([*it.below, *it.above])
                 parts.append(whole if it.is_hull() else self._dented(it, some if are_filled else set(), make))
         return joined(UNION, parts)
+
+    def _parts(self, found: SlicedPiece, piece: Loop, low: End, high: End) -> Parts | None:
+        """What makes the corners of convex parts of a slice of a piece; None where there are none.
+
+        Where all slices of a piece are equal but for a turn and their height, these are looked for in the first one alone.
+        """
+        if self._scale != [1, 1]:
+            return found.parts(self._node)
+        turned, higher = round(high.turned - low.turned, 9), round(high.level - low.level, 9)
+        key = tuple(piece), turned, higher, tuple(found.rising)
+        if key not in self._have_parts:
+            self._have_parts[key] = found.parts(self._node) is not None
+        return partial(found.placed_parts, self._node) if self._have_parts[key] else None
 
     def _sliced(self, piece: Loop, low: End, high: End, outer: AbstractSet[Side]) -> SlicedPiece:
         below, above = self._placed(piece, low), self._placed(piece, high)

@@ -86,7 +86,7 @@ class Rounder:
             dented = self._dented(solid, unit, found) if self._planes is None else None
             return dented or self._tree(solid.parts, unit, found)
         if isinstance(solid, Sliced):
-            return self._tree(solid.make() if self._planes is None else solid.pieces, unit, found)
+            return self._tree(solid.dented if self._planes is None else solid.pieces, unit, found)
         if isinstance(solid, Join):
             return joined(solid.operation, [self._tree(it, unit, found) for it in solid.parts])
         if isinstance(solid, Faced):
@@ -99,6 +99,8 @@ class Rounder:
 
     def _bodies(self, body: Hull, node: Node, found: Rounded) -> Grid | None:
         """A hull as shapes of a source. Raises TooMany."""
+        # (before it is cut, which takes longer, and after which all its planes are there too)
+        self._count(body.facets, found)
         parts = [body] if self._planes is None else split(body)
         for it in parts:
             self._check_room(it)

@@ -91,6 +91,13 @@ class Slice:
         make = found
         return lambda: [[(x, y, z / factor + low) for x, y, z in part] for part in make()]
 
+    def placed_parts(self, node: Node) -> list[list[Vector]]:
+        """The corners of convex parts of it. Raises CsgFault where there are none."""
+        make = self.parts(node)
+        if make is None:
+            raise node.fault("NotConvex", "a slice of it has hollow sides, and can't be cut into convex parts")
+        return make()
+
     def _is_ahead(self, triangle: Sequence[Vector], point: Vector) -> bool:
         """Whether a point is ahead of a triangle, counterclockwise from outside, by more than digits leave open."""
         (ax, ay, az), (bx, by, bz), (cx, cy, cz) = triangle

@@ -94,6 +94,11 @@ class Sliced:
     pieces: Solid
     make: Callable[[], Optional[Solid]]
 
+    @cached_property
+    def dented(self) -> Optional[Solid]:
+        """The second form; None where it is nothing."""
+        return self.make()
+
 
 @dataclass(frozen=True)
 class Faced:

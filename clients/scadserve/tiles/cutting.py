@@ -13,6 +13,7 @@ from __future__ import annotations
 from collections import Counter, deque
 from dataclasses import dataclass
 from enum import Enum
+from functools import cached_property
 from typing import Iterator, Sequence, Union
 
 from ..openscad.exact_hull import Hull, Plane, Point
@@ -38,7 +39,7 @@ FULL, EMPTY = Fill.FULL, Fill.EMPTY
 class Convex:
     """A leaf on the grid by its facets, each with its plane, the numbers of its corners and its box."""
 
-    __slots__ = ("hull", "node", "planes", "rings", "boxes", "box", "_peaks", "_axes", "_twice", "_sides", "_text")
+    __slots__ = ("hull", "node", "planes", "rings", "boxes", "box", "_peaks", "_axes", "_twice", "_sides", "_text", "_places")
 
     def __init__(self, hull: Hull, node: Node) -> None:
         self.hull, self.node = hull, node
@@ -51,12 +52,23 @@ class Convex:
         self._twice: Convex | None = None
         self._sides: list[Plane] | None = None
         self._text: str | None = None
+        self._places: tuple[dict[int, int], ...] | None = None
 
     def sides(self) -> list[Plane]:
         """The planes of its facets, each as the one of two opposite ones that stands for both."""
         if self._sides is None:
             self._sides = list(map(either, self.planes))
         return self._sides
+
+    def places(self, axis: int) -> dict[int, int]:
+        """The places of the facets that are across an axis, by their numbers."""
+        if self._places is None:
+            self._places = ({}, {}, {})
+            for at, plane in enumerate(self.planes):
+                its_axis = across(plane)
+                if its_axis is not None:
+                    self._places[its_axis][at] = plane[3] * plane[its_axis]
+        return self._places[axis]
 
     def text(self) -> str:
         """It as a shape of a source."""
@@ -115,7 +127,13 @@ class Near:
 
     leaf: Convex
     facets: Sequence[int]
-    has_corner: bool = False
+    tile: Box | None = None
+
+    @cached_property
+    def has_corner(self) -> bool:
+        """Whether a corner of the leaf is known to be inside the tile; there is one where that is no tile, but all of space."""
+        corners, rings = self.leaf.hull.corners, self.leaf.rings
+        return self.tile is None or any(_is_inside(corners[it], self.tile) for at in self.facets for it in rings[at])
 
     def holds(self, point: Point, times: int = 1) -> bool:
         """Whether a point of the tile, whose coordinates are given this many times as large, is in the leaf or on it."""
@@ -150,8 +168,7 @@ class Tile:
 
     def with_half_steps(self) -> Tile:
         """The same on a grid that is twice as fine."""
-        a, b, c, x, y, z = self.box
-        return Tile((2 * a, 2 * b, 2 * c, 2 * x, 2 * y, 2 * z), _twice(self.tree), 2 * self.steps, True)
+        return Tile(_twice_as_large(self.box), _twice(self.tree), 2 * self.steps, True)
 
 
 @dataclass(frozen=True)
@@ -166,7 +183,12 @@ class Limits:
 def _twice(tree: Tree) -> Tree:
     if isinstance(tree, Join):
         return Join(tree.operation, [_twice(it) for it in tree.parts])
-    return Near(tree.leaf.twice(), tree.facets, tree.has_corner)
+    return Near(tree.leaf.twice(), tree.facets, None if tree.tile is None else _twice_as_large(tree.tile))
+
+
+def _twice_as_large(box: Box) -> Box:
+    a, b, c, x, y, z = box
+    return 2 * a, 2 * b, 2 * c, 2 * x, 2 * y, 2 * z
 
 
 def box_of(points: Sequence[Point]) -> Box:
@@ -180,7 +202,7 @@ def whole_tree(grid: Grid) -> Tree:
     if isinstance(grid, Join):
         return Join(grid.operation, [whole_tree(it) for it in grid.parts])
     leaf = Convex(grid.hull, grid.node)
-    return Near(leaf, range(len(leaf.planes)), True)
+    return Near(leaf, range(len(leaf.planes)))
 
 
 def near_leaves(tree: Tree) -> Iterator[Near]:
@@ -238,7 +260,7 @@ def _join(operation: str, parts: list[Tree], nothing: Fill) -> Tree | Fill:
 
 def _filled(box: Box, node: Node) -> Near:
     """A leaf that fills a box: none of its facets goes through it."""
-    return Near(Convex(block(box), node), ())
+    return Near(Convex(block(box), node), (), box)
 
 
 def block(box: Box) -> Hull:
@@ -275,7 +297,7 @@ def _near(near: Near, box: Box) -> Near | Fill:
         if ahead > -beside:
             found.append(at)
     if found:
-        return Near(leaf, found, any(_is_inside(leaf.hull.corners[it], box) for at in found for it in leaf.rings[at]))
+        return Near(leaf, found, box)
     # (no facet goes through the box, so all of it is on the side of its middle)
     return FULL if near.holds((sx, sy, sz), 2) else EMPTY
 
@@ -309,10 +331,9 @@ def _wall(tile: Tile, axis: int) -> int | None:
     """The place nearest to the middle of a tile where it can be cut across an axis."""
     taken = set()
     for it in near_leaves(tile.tree):
-        for at in it.facets:
-            plane = it.leaf.planes[at]
-            if across(plane) == axis:
-                taken.add(plane[3] * plane[axis])
+        places = it.leaf.places(axis)
+        if places:
+            taken.update(places[at] for at in it.facets if at in places)
     low, high = tile.box[axis], tile.box[axis + 3]
     middle = (low + high) // 2
     for away in range((high - low) // 2 + 1):

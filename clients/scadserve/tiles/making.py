@@ -47,7 +47,7 @@ def made(
     """
     found = pieces(grid, limits, steps)
     sizes = [facets_of(it, 10**9) for it in found]
-    solver = _Solver(server, limits, until)
+    solver = Solver(server, limits, until)
     parts: list[list[Part]] = [[] for _ in found]
     tiles = finished = 0
     for number, of_piece in done(solver, found, jobs or processors()):
@@ -58,7 +58,7 @@ def made(
     return Made(glued(it for of_piece in parts for it in of_piece), tiles)
 
 
-class _Solver:
+class Solver:
     """Makes the parts of a boundary that are in a piece of a design."""
 
     def __init__(self, server: Sequence[str], limits: Limits, until: float | None) -> None:
