@@ -354,9 +354,9 @@ class Faults(Sources):
              "a.scad:2:1017: error: TooLong: a line of a source has at most 1,016 bytes"),
             ({"part.scad": "include <a0.scad>", "a99.scad": "", **{
                 f"a{it}.scad": f"include <a{it + 1}.scad>" for it in range(99)}},
-             "a63.scad:1:1: error: TooManyFiles: more than 1,024 files, or 64 in one another"),
+             "a63.scad:1:1: error: TooManyFiles: more than 1,024 files, or files nested more than 64 deep"),
             ({"part.scad": "include <a.scad>" * 1_025, "a.scad": ""},
-             f"part.scad:1:{16 * 1_024 + 1}: error: TooManyFiles: more than 1,024 files, or 64 in one another"),
+             f"part.scad:1:{16 * 1_024 + 1}: error: TooManyFiles: more than 1,024 files, or files nested more than 64 deep"),
         ):
             with self.subTest(said=said):
                 self.assert_refused(files, said)

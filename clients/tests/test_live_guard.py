@@ -197,7 +197,7 @@ class Words(unittest.TestCase):
                 (("--jobs", "0"), "from 1 to 64"),
                 (("--seconds", "0"), "is not a number of seconds"),
                 (("--base", "ftp://example.org/"), "neither an address"),
-                (("--base", "/a?b"), "other signs"),
+                (("--base", "/a?b"), "characters other than"),
                 ((os.path.join(folder, "a.stl"),), "neither a folder nor a source"),
                 ((os.path.join(folder, "no", "a.scad"),), "no such folder"),
                 ((os.path.join(folder, "link.scad"),), "it is a link"),

@@ -48,7 +48,7 @@ class Hover(Case):
             ("(translate)", "parameters in order: `v`"),
             ("(for)", "for (i = [a : step : b])"),
             ("(sphere)", "left out: NotInProfile. Instead: unions of boxes"),
-            ("(module)", "up to 64 calls in one another"),
+            ("(module)", "up to 64 nested calls"),
         ):
             with self.subTest(pattern):
                 self.assertIn(said, editor.ask("textDocument/hover", about(uri, TEXT, pattern))["contents"]["value"])

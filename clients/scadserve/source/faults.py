@@ -25,43 +25,48 @@ FAULTS: dict[str, tuple[str, str]] = {
     "OpenComment": ("this comment is not closed", "close it by */"),
     "OpenText": ("this text is not closed on its line", 'close it by " on the same line'),
     "NotWhole": ("{} is not a whole number", "write lengths in tenths, 25 for 2.5, and print by off2stl --unit 1/10"),
-    "TooLarge": ("{} is past 2^53 - 1", "take smaller numbers: the room ends at 4,095"),
-    "TypeMismatch": ("a value of another type is wanted at {}", PAGE),
+    "TooLarge": ("{} is past 2^53 - 1", "use smaller numbers: coordinates end at 4,095"),
+    "TypeMismatch": ("a value of another type is expected at {}", PAGE),
     "ZeroDivisor": ("a division by 0", "test the divisor first: b == 0 ? 0 : a / b"),
-    "BadSize": ("a side, a height or a radius is below 1", "leave out what has no size, as in if (w > 2 * t) cube(w - 2 * t);"),
-    "NotOnGrid": ("what is centred would lie between whole numbers", "make its sides even, or use --half"),
+    "BadSize": (
+        "a side, a height or a radius is below 1", "leave out shapes without a size, as in if (w > 2 * t) cube(w - 2 * t);"
+    ),
+    "NotOnGrid": ("corners of a centred shape would lie between whole numbers", "make its sides even, or use --half"),
     "OutOfRange": (
         "a coordinate of {} is past 4,095, or with --half past 2,047",
-        "move it to the middle, or make several parts of it: there is so much room to each side of the origin",
+        "move it to the middle, or make several parts of it: this is the room to each side of the origin",
     ),
     "FewPoints": ("too few points or faces", "a polygon has 3 points at least, and a polyhedron 4 faces of 3 corners"),
     "BadPoint": ("a face names a point that is not there", "points are numbered from 0"),
-    "NotFlat": ("the points of a face lie on one line, or on no one plane", "divide that face into triangles"),
+    "NotFlat": ("the points of a face lie on one line, or not on one plane", "divide that face into triangles"),
     "NotConvex": (
         "this shape is not convex, or its faces are turned inside out",
         "join convex shapes by union; corners of a polyhedron's faces go clockwise as seen from outside",
     ),
     "NotClosed": ("these faces do not close a body", "each edge belongs to two faces, once in each direction"),
     "Expected": ("{} can't follow what stands before it", "look before it: often a ; or a closing bracket is missing there"),
-    "Nested": ("more than 64 brackets, bodies and signs in one another", "give inner parts names, as variables or modules"),
+    "Nested": ("brackets, bodies and signs are nested more than 64 deep", "give inner parts names, as variables or modules"),
     "UnknownName": ("{} has no value here", "assign it before this place, in the same scope or in one around it"),
     "UnknownFunction": ("there is no function {}", PAGE),
     "UnknownModule": ("there is no module {}", PAGE),
     "BadArgument": ("an argument is surplus, unknown, given twice or missing", PAGE),
-    "TooDeep": ("more than 64 calls, or 512 evaluations, in one another", "let the recursion end sooner, or use a for loop"),
+    "TooDeep": (
+        "calls are nested more than 64 deep, or evaluations more than 512",
+        "let the recursion end sooner, or use a for loop",
+    ),
     "TooManyTurns": ("loops, calls and lists take more than 100,000 turns", "make several parts of it, or shorter ranges"),
     "RangeOrder": ("this range ends before it starts, or its step is 0", "write the step: [5 : -1 : 1]"),
     "AssertFailed": ("this assertion does not hold", "its condition says what the part needs"),
     "NotInProfile": ("{} is left out of this profile of OpenSCAD", PAGE),
     "WrongDimension": (
         "a flat shape stands where a solid is wanted, or a solid where a flat shape is",
-        "linear_extrude(1) makes a solid of flat shapes, and holds flat shapes alone",
+        "linear_extrude(1) makes a solid of flat shapes, and takes only flat shapes",
     ),
     "NotQuarter": ("the angle is not a multiple of 90", "turn by quarters, or by a multmatrix of whole numbers"),
     "Singular": ("this transform would flatten space", "no factor may be 0, nor a matrix's determinant"),
     "TooManyParts": ("more than 1,024 shapes", "make several parts of it"),
     "TooManyPlanes": ("the part has more than 1,024 distinct planes", "make several parts of it"),
-    "LongList": ("a list is too long, or lists are too deep in one another", "docs/FAULTS.md has each list's limits"),
+    "LongList": ("a list is too long, or lists are nested too deep", "docs/FAULTS.md has each list's limits"),
 }
 
 # What is wrong where the profile has a word in other forms alone, and the cures.
@@ -70,7 +75,7 @@ ROUND = "give r, and $fn = 4 for a square on its corner; docs/OPENSCAD.md has a 
 FORMS: dict[str, str] = {
     **dict.fromkeys(["circle", "cylinder"], ROUND),
     **dict.fromkeys(["for", "function", "linear_extrude", "mirror", "polygon", "rotate"], PAGE),
-    "hull": "a hull is of unions alone: make its cuts around it, as in difference() { hull() .. }",
+    "hull": "a hull takes only unions: make its cuts outside it, as in difference() { hull() .. }",
 }
 # A number of a `multmatrix` is this at most; the modules that move points; and those that have lengths.
 MOST_FACTOR = 65_535
@@ -85,7 +90,7 @@ OVERLAP = "leave it out: touching faces are exact, and need no overlap"
 NO_MARK = "save without it, as plain text in UTF-8"
 
 # The cure of a letter behind a number, as in 0x10 and 3d_part.
-NAMED = "names begin with a letter or _, and numbers have decimal digits alone"
+NAMED = "names begin with a letter or _, and numbers have only decimal digits"
 
 # Of the limits that are tested before a source is sent, and of what a session or a script is told.
 LIMITS: dict[str, tuple[str, str]] = {
@@ -93,7 +98,7 @@ LIMITS: dict[str, tuple[str, str]] = {
     "TooManyLines": ("a source has at most 4,096 lines", "join lines, or make several parts of it"),
     "TooLarge": ("the source fills more than a script's 1 MiB", "make several parts of it"),
     "NoSuchLine": ("the source has no such line", "lines are numbered from 1"),
-    "TooManyShows": ("a client is shown its lines 16 times at most", "use another client"),
+    "TooManyShows": ("a client's lines are shown at most 16 times", "use another client"),
     "TooManyExports": ("a client exports 16 times at most", "use another client"),
     "BadCommand": ("this is not a command", "docs/SPECIFICATION.md has the commands"),
     "NoName": ("a line begins with no client's name", "names have 1 to 16 of a to z and 0 to 9"),
@@ -105,16 +110,16 @@ LIMITS: dict[str, tuple[str, str]] = {
 FILES: dict[str, tuple[str, str]] = {
     "NoFile": ("there is no such file", "it is looked for in the folder of its source, in those of -I and of OPENSCADPATH"),
     "Ring": ("this file is being read already", "put what both files need into a third one"),
-    "TooManyFiles": ("more than 1,024 files, or 64 in one another", "join some of them"),
+    "TooManyFiles": ("more than 1,024 files, or files nested more than 64 deep", "join some of them"),
     "TooLarge": ("with this file the source is more than a script's 1 MiB", "make several parts of it"),
     "OpenComment": FAULTS["OpenComment"],
     "BadUnit": (
-        "{} is not a number above 0 like 2, 25.4 or 1/10", "write // unit: 1/10 once, of a millimetre, or call with --unit 1/10"
+        "{} is not a number above 0 like 2, 25.4 or 1/10", "write // unit: 1/10 once, in millimetres, or call with --unit 1/10"
     ),
 }
 
 # Of solids that pass a limit, by its kind.
-CUTS = "make several parts of it, or let fewer cuts go across all of it: a bar cuts once where many boxes cut often"
+CUTS = "make several parts of it, or let fewer cuts cross all of it: one bar makes one cut, many boxes make many"
 FACES = "make several parts of it, or let fewer shapes cross one another"
 COMPLEX: dict[str, tuple[str, str]] = {
     "solid": ("one of its unions, differences or intersections grows past 50,000 pieces and their edges", CUTS),
