@@ -16,9 +16,11 @@ from sources import Call, Declared
 WIDE = 128
 SILENT = re.compile(r"^(\s*)(?:abbrev |unfoldable )?(?:pub )?")
 # A field of a record, or a variant or a field of a type, on one line, in whose type no value stands: a statement has its own;
-# or a row of a table: an equation whose right side is one word.
+# or a row of a table: an equation whose right side is one word, one text or a list of texts.
 PLAIN = r"(?:[A-Zℕℤ]\w*|\([\w ]+ : [A-Zℕℤ]\w*\)|[()→ ])+"
-ALONE = re.compile(rf"\s+(?:[\w' ]+ : {PLAIN}|\w+(?:: [\w<>, ]+)?,|\w+\([^{{}}]*\),|\w+(?: (?:\w+|\(\w[\w ]*\)))+ = \w+)")
+SPELLED = r'codes "[^"]*"'
+ROW = rf"\w+(?: (?:\w+|\(\w[\w ]*\)))+ = (?:\w+|{SPELLED}|(?:{SPELLED} ∷ )*\[\])"
+ALONE = re.compile(rf"\s+(?:[\w' ]+ : {PLAIN}|\w+(?:: [\w<>, ]+)?,|\w+\([^{{}}]*\),|{ROW})")
 # Definitions of at most this many lines stand below one another without an empty line between them.
 SHORT = 5
 

@@ -431,6 +431,22 @@ class Layout(unittest.TestCase):
             "  number Four = 4",
         ])  # fmt: skip
 
+    def test_rows_of_a_table_of_texts_share_a_line(self) -> None:
+        text = "-- a word\npub word : Kind → List ℕ\nword One = codes \"one\"\nword Two = codes \";\"\n"
+        text += "word Three = codes \"th\" ++ codes \"ree\"\nword Four = codes \"four\"\n"
+        self.assertEqual(laid_definition(self.definition(text)), [
+            "word : Kind → List ℕ  -- a word", "  word One = codes \"one\"; word Two = codes \";\"",
+            "  word Three = codes \"th\" ++ codes \"ree\"", "  word Four = codes \"four\"",
+        ])  # fmt: skip
+
+    def test_rows_of_a_table_of_lists_of_texts_share_a_line(self) -> None:
+        text = "-- words\npub words : Kind → List (List ℕ)\nwords One = []\nwords Two = codes \"a\" ∷ codes \"b\" ∷ []\n"
+        text += "words Three = Two ∷ []\nwords Four = codes \"c\" ∷ []\n"
+        self.assertEqual(laid_definition(self.definition(text)), [
+            "words : Kind → List (List ℕ)  -- words", "  words One = []; words Two = codes \"a\" ∷ codes \"b\" ∷ []",
+            "  words Three = Two ∷ []", "  words Four = codes \"c\" ∷ []",
+        ])  # fmt: skip
+
     def test_no_word_of_a_definition_is_lost(self) -> None:
         read = statement_here()
         silent = {"pub", "abbrev", "unfoldable", ";"}
