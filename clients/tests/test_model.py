@@ -172,7 +172,7 @@ def small_fault(row: tuple[int, bytes, bytes]) -> str | None:
 
 class Rows(unittest.TestCase):
     def assert_all(self, fault_of, cases, processes=1):
-        """Each row has its answer; they are asked by so many processes. (One knows again what an earlier script exported.)"""
+        """Each row has its answer; they are asked by this many processes. (One knows again what an earlier script exported.)"""
         self.assertGreater(len(cases), 100)
         with ProcessPoolExecutor(processes, initializer=gc.disable) as workers:
             wrong = [fault for fault in workers.map(fault_of, cases, chunksize=4) if fault is not None]
