@@ -83,7 +83,7 @@ class Lines(unittest.TestCase):
             ("NotInProfile", b"cylinder(h = 2, d = 3);", 1, "twelve corners"),
             ("NotInProfile", b"sphere(3);", 1, "docs/OPENSCAD.md"),
             ("NotInProfile", b"rotate(90, [0, 0, 1]) cube(1);", 1, "docs/OPENSCAD.md"),
-            ("NotInProfile", b"hull() difference() { cube(2); cube(1); }", 1, "make its cuts around it"),
+            ("NotInProfile", b"hull() difference() { cube(2); cube(1); }", 1, "make its cuts outside it"),
             ("NotWhole", b"cube(2.5);", 6, "off2stl --unit 1/10"),
             ("NotWhole", b"w = 7 / 2;", 7, "(w - w % 2) / 2"),
             ("NotWhole", b"cube(1E1);", 6, "without an exponent, 10 for 1e1"),

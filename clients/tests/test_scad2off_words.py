@@ -78,7 +78,7 @@ class Words(Calls):
         self.assertEqual((status, error), (0, b""))
         for option in (b"-o", b"-d", b"--half", b"-D", b"--allow-empty", b"--script", b"--explain", b"-I"):
             self.assertIn(b"\n  %b " % option, out)
-        self.assertIn(b"behind `--`", out)
+        self.assertIn(b"`--` is a FILE", out)
 
     def test_wrong_words_are_told_and_nothing_runs(self):
         self.write("a.scad", "")
