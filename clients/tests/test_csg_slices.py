@@ -3,9 +3,11 @@
 import math
 import unittest
 from fractions import Fraction
+from unittest import mock
 
 from scadserve.openscad.conversion import Wanted, converted
 from scadserve.openscad.grid import Rounder
+from scadserve.openscad.polyhedron import seen
 from scadserve.openscad.reader import CsgFault, read
 from scadserve.openscad.slices import Slice, rising
 from scadserve.openscad.space import Space
@@ -114,6 +116,26 @@ class Designs(unittest.TestCase):
         self.assertEqual(detail.fewest["linear_extrude"], (1, 2))
         self.assertGreaterEqual(detail.off, off)
         self.assertLess(detail.off, off + 1)
+
+
+class Alike(unittest.TestCase):
+    ANGLE = "[[0, 0], [10, 0], [10, 3], [3, 3], [3, 10], [0, 10]]"
+
+    def looked_for(self, count, more=""):
+        """How often convex parts are looked for, of this many slices that turn by 6 degrees each."""
+        how = f"height = {count}, twist = {6 * count}, slices = {count}{more}"
+        text = f"linear_extrude({how}) {{ polygon(points = {self.ANGLE}); }}"
+        front = Front(".")
+        with mock.patch("scadserve.openscad.slices.seen", wraps=seen) as looking:
+            solid = Space(Detail(most_sides=math.inf), front.flat, front.solid).solid(read(text), IDENTITY)
+            self.assertIsNotNone(solid.dented)
+        return looking.call_count
+
+    def test_slices_that_are_equal_but_for_a_turn_are_looked_at_once(self):
+        self.assertEqual(self.looked_for(10), self.looked_for(20))
+
+    def test_scaled_ones_are_looked_at_each(self):
+        self.assertGreater(self.looked_for(10, ", scale = 2"), self.looked_for(5, ", scale = 2"))
 
 
 class Dents(unittest.TestCase):
