@@ -159,7 +159,7 @@ def tetrahedron(points: Sequence[Point]) -> tuple[int, int, int, int] | None:
     third = _of_greatest([_square(cross(along, it)) for it in ways])
     normal = cross(along, ways[third])
     heights = [dot(normal, it) for it in ways]
-    fourth = _of_greatest(list(map(abs, heights)))
+    fourth = _of_greatest([abs(it) for it in heights])
     if heights[fourth] == 0:
         return None
     return (0, second, third, fourth) if heights[fourth] < 0 else (0, third, second, fourth)

@@ -329,7 +329,7 @@ def halved(tile: Tile) -> list[Tile] | None:
 
 def _wall(tile: Tile, axis: int) -> int | None:
     """The place nearest to the middle of a tile where it can be cut across an axis."""
-    taken = set()
+    taken: set[int] = set()
     for it in near_leaves(tile.tree):
         places = it.leaf.places(axis)
         if places:
