@@ -1,5 +1,5 @@
 -- What the program of one cube means: its design, by what a judge says of the one call, and the box that it is placed as.
-use Rattle.std.proofs.Common.{◌≡◌, ℕ, zero, suc, Bool, true, false, List, [], ◌∷◌, ◌≤◌, None, refl, sym, subst, ap, ◌∙◌, pos, negsuc, arith, All, take, nat_le, unsigned_abs}
+use Rattle.std.proofs.Common.{◌≡◌, ℕ, zero, suc, Bool, true, false, List, [], ◌∷◌, ◌≤◌, None, refl, sym, subst, ap, ◌∙◌, pos, negsuc, arith, All, take, nat_le, unsigned_abs, ℤ}
 use Rattle.std.specs.List.{AllZip}
 use Rattle.std.proofs.lemmas.Bool.{leb-true}
 use Rattle.std.proofs.Math.Nat.{eq-one_of_dvd-one}
