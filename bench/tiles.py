@@ -13,7 +13,7 @@ A line is printed for each, and the last one counts them; the status is 1 where 
 
 `growth` prints for designs of more and more planes how many tiles they have and how many seconds of processors they take: to
 cut the design into pieces, to make the tiles of the pieces by the server, and to join them. `sizes` prints the same for two
-designs, by tiles of at most so many planes. SCADSERVE in the environment names the program.
+designs, by tiles of at most a given number of planes. SCADSERVE in the environment names the program.
 """
 
 from __future__ import annotations
