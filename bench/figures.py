@@ -158,7 +158,15 @@ SECTIONS = (
         "How long do designs by tiles take, and how does the time grow?",
         "`python3 bench/tiles.py growth --jobs 1` makes squares of 2 to 96 balls with bores, at one density, "
         "[by tiles](OPENSCAD.md#any-size-by-tiles). The processor seconds are those to cut the design into pieces, to make "
-        "the tiles of the pieces with the server and read their texts, and to join these.",
+        "the tiles of the pieces with the server and read their texts, and to join these. The time grows no faster than "
+        "n log n as long as the last column grows no faster than the logarithm of the first.",
+        printed_table,
+    ),
+    Section(
+        "sizes",
+        ("python3", "bench/tiles.py", "sizes", "--jobs", "1"),
+        "How many planes should a tile have?",
+        "`python3 bench/tiles.py sizes --jobs 1` makes two designs by tiles of several sizes. The tools use 300.",
         printed_table,
     ),
 )
@@ -179,7 +187,8 @@ Each script prints its results; the comment at its head says how it measures.
 | `sh bench/series.sh` | instructions and memory of solids, facets and texts, and how they grow |
 | `sh bench/geometry.sh` | sides and cuts in a second, beside the same sums in plain Rust (it needs `rustc`) |
 | `tools/compare-openscad.py` | the times of parts with both programs, as in [OPENSCAD.md](OPENSCAD.md#compared-with-openscad) |
-| `python3 bench/tiles.py sizes` | the times of two designs by tiles of several sizes |
+| `bench/live.py` | the time from the start of `scadlive` to the drawn bracket, and from a key to the drawn solid of 300 parts |
+| `tools/empty-root.sh bookworm` | the time of `git clone` and of README's first command on an empty Debian 12 |
 | `python3 bench/tiles.py chance` | whether designs by chance are the same with two sizes of tiles, and as one source |
 | `sh bench/memo.sh` | probes and fills of the memo in a second, with 64, 512 and 4,096 entries |
 | `sh bench/syntax.sh` | bytes that are lexed and parsed in a second, of ordinary and of dense sources |
