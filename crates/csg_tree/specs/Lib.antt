@@ -14,4 +14,3 @@ pub mod Earlier
 pub mod Fronts
 pub mod JoinNames
 pub mod Reach
-pub mod Rows

@@ -5,6 +5,7 @@
 mod earlier;
 mod front_hash;
 mod interner;
+mod join_names;
 mod joining;
 mod key;
 mod laws;
@@ -16,11 +17,9 @@ mod numbering;
 mod op;
 mod parts;
 mod planes;
-mod row_names;
 mod store;
 mod tree;
 mod tree_key;
-mod workers;
 
 pub use joining::{balanced, join};
 pub use key::byte_of;

@@ -12,15 +12,13 @@ ghost use Rattle.csg_tree.specs.JoinNames.{name_of_join};
 ghost use Rattle.csg_tree.specs.Earlier.{IsNumberOf, AreAllNumbersIn};
 
 use crate::front_hash::{hash_of_front, second_join};
-use crate::row_names::{RowNames, name_made};
-use crate::workers::names_of_store;
+use crate::join_names::{front_made, name_made};
 use crate::{CsgNode, CsgStore, Op, TreeKey};
 use plain_text::NoMemory;
 use sha2::Sha256;
 use std::alloc::Global;
 use std::marker::Model;
 use std::sync::Arc;
-use std::thread::Threads;
 
 /// A shared store with the SHA-256 of the bytes of each of its joins, which contracts see as the store is
 /// seen. It also keeps each hash as it was behind the join's front: where a later store has another join with the same
@@ -54,17 +52,17 @@ impl Model for NamedStore {
 }
 
 impl NamedStore {
-    /// A store with the names of its joins, which at most the given number of workers make at the same time where threads can
-    /// be made.
-    pub fn new<R: Threads + Sync>(
-        rt: &R,
-        alloc: Global,
-        workers: u64,
-        store: Arc<CsgStore>,
-    ) -> Result<NamedStore, NoMemory>
+    /// A store with the names of its joins.
+    pub fn new(alloc: Global, store: Arc<CsgStore>) -> Result<NamedStore, NoMemory>
         ensures { IfOk result (λ named. named ≡ arc_value store) }
     {
-        let RowNames { names, fronts } = names_of_store(rt, alloc, workers, &store)?;
+        let mut names = Vec::with_capacity(alloc, store.len() as usize)?;
+        let mut fronts = Vec::with_capacity(alloc, store.len() as usize)?;
+        for before in 0..store.len() {
+            let hasher = front_made(&store, before + 1);
+            names.push(name_made(&store, before + 1, &hasher)?)?;
+            fronts.push(hasher)?;
+        }
         Ok(NamedStore {
             store,
             names,

@@ -5,4 +5,3 @@ pub mod Pieces
 pub mod lemmas
 pub mod Nodes
 pub mod WholeLists
-pub mod RowFacets

@@ -1,5 +1,4 @@
 pub mod Facets
 pub mod Sides
 pub mod Adding
-pub mod Rows
 pub mod Between

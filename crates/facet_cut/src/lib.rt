@@ -5,13 +5,10 @@ mod adding;
 mod cutting;
 mod facet;
 mod laws;
-mod rows;
 mod stops;
 mod walls;
-mod workers;
 
 pub use cutting::facets;
 pub use facet::Facet;
 pub use laws::{facets_are_polygons, facets_bound_their_solid, reversed_polygons_are_polygons};
 pub use stops::CutStop;
-pub use workers::facets_by;

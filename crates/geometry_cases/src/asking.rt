@@ -4,35 +4,11 @@ use crate::numbers::point;
 use crate::put::put_corners;
 use bsp_tree::{Link, Solid, holds};
 use case_lines::{CaseStop, found, put, put_number, put_plane, put_stroked, unit_of};
-use facet_cut::{CutStop, Facet, facets, facets_by};
-use off_text::{OffStop, off_bytes, off_bytes_by};
+use facet_cut::{CutStop, Facet, facets};
+use off_text::{OffStop, off_bytes};
 use plain_text::NoMemory;
 use plane_predicate::Unit;
 use std::alloc::Global;
-use std::thread::Threads;
-
-/// Who cuts and writes facets: the thread that asks, or the given number of workers.
-#[derive(Drop)]
-pub struct Hands<'a, R: Threads + Sync> {
-    pub rt: &'a R,
-    pub workers: Option<u64>,
-}
-
-impl<R: Threads + Sync> Hands<'_, R> {
-    fn facets(&self, alloc: Global, solid: &Solid, most: u32) -> Result<Vec<Facet>, CutStop> {
-        match self.workers {
-            None => facets(alloc, solid, most),
-            Some(workers) => facets_by(self.rt, alloc, workers, solid, most),
-        }
-    }
-
-    fn text(&self, alloc: Global, facets: &[Facet], unit: Unit) -> Result<Vec<u8>, OffStop> {
-        match self.workers {
-            None => off_bytes(alloc, facets, unit),
-            Some(workers) => off_bytes_by(self.rt, alloc, workers, facets, unit),
-        }
-    }
-}
 
 #[derive(Clone, Copy)]
 pub enum Asking {
@@ -69,15 +45,14 @@ fn put_nodes(alloc: Global, out: &mut Vec<u8>, solid: &Solid) -> Result<(), Case
 }
 
 // The facets of a solid, within the given number, and how many there are.
-fn put_count<R: Threads + Sync>(
-    hands: &Hands<'_, R>,
+fn put_count(
     alloc: Global,
     out: &mut Vec<u8>,
     solid: &Solid,
     most: i64,
     into: &mut Vec<Facet>,
 ) -> Result<(), CaseStop> {
-    match hands.facets(alloc, solid, u32::try_from(most).unwrap_or(0)) {
+    match facets(alloc, solid, u32::try_from(most).unwrap_or(0)) {
         Ok(all) => {
             put_number(alloc, out, all.len() as i128)?;
             *into = all;
@@ -89,8 +64,7 @@ fn put_count<R: Threads + Sync>(
 }
 
 /// What a phrase writes of a solid; where it asks for the facets, they are kept.
-pub fn ask<R: Threads + Sync>(
-    hands: &Hands<'_, R>,
+pub fn ask(
     alloc: Global,
     out: &mut Vec<u8>,
     asking: Asking,
@@ -105,7 +79,7 @@ pub fn ask<R: Threads + Sync>(
             let is_inside = holds(solid, &point(*x, *y, *z, *w)?);
             put(out, if is_inside { b"inside" } else { b"outside" })?;
         }
-        (Asking::Facets, [most]) => put_count(hands, alloc, out, solid, *most, kept)?,
+        (Asking::Facets, [most]) => put_count(alloc, out, solid, *most, kept)?,
         _ => return Err(CaseStop::Unread),
     }
     Ok(())
@@ -116,14 +90,12 @@ pub enum Printing {
     Planes,
     Around,
     Text,
-    Same,
 }
 
-const PRINTINGS: [(&[u8], Printing); 4] = [
+const PRINTINGS: [(&[u8], Printing); 3] = [
     (b"planes", Printing::Planes),
     (b"around", Printing::Around),
     (b"text", Printing::Text),
-    (b"same", Printing::Same),
 ];
 
 pub fn printing_of(word: &[u8]) -> Option<Printing> {
@@ -131,39 +103,19 @@ pub fn printing_of(word: &[u8]) -> Option<Printing> {
 }
 
 // The first bytes of the text of facets.
-fn put_text<R: Threads + Sync>(
-    hands: &Hands<'_, R>,
+fn put_text(
     alloc: Global,
     out: &mut Vec<u8>,
     facets: &[Facet],
     unit: Unit,
     most: usize,
 ) -> Result<(), CaseStop> {
-    match hands.text(alloc, facets, unit) {
+    match off_bytes(alloc, facets, unit) {
         Ok(text) => Ok(put_stroked(out, &text, most)?),
         Err(OffStop::TooManyCorners) => Ok(put(out, b"too many corners")?),
         Err(OffStop::TooManyVertices) => Ok(put(out, b"too many vertices")?),
         Err(OffStop::NoMemory) => Err(CaseStop::NoMemory),
     }
-}
-
-// Whether the text is that which the thread that asks writes alone.
-fn put_same<R: Threads + Sync>(
-    hands: &Hands<'_, R>,
-    alloc: Global,
-    out: &mut Vec<u8>,
-    facets: &[Facet],
-    unit: Unit,
-) -> Result<(), CaseStop> {
-    let is_same = match (
-        hands.text(alloc, facets, unit),
-        off_bytes(alloc, facets, unit),
-    ) {
-        (Ok(text), Ok(other)) => text.as_slice() == other.as_slice(),
-        _ => return Err(CaseStop::NoMemory),
-    };
-    put(out, if is_same { b"same" } else { b"another" })?;
-    Ok(())
 }
 
 // The planes of facets.
@@ -177,8 +129,7 @@ fn put_facets(alloc: Global, out: &mut Vec<u8>, facets: &[Facet]) -> Result<(), 
 }
 
 /// What a phrase writes of facets.
-pub fn print<R: Threads + Sync>(
-    hands: &Hands<'_, R>,
+pub fn print(
     alloc: Global,
     out: &mut Vec<u8>,
     printing: Printing,
@@ -192,20 +143,12 @@ pub fn print<R: Threads + Sync>(
             let facet = facets.get(at).ok_or(CaseStop::Unread)?;
             put_corners(alloc, out, &facet.polygon)?;
         }
-        (Printing::Text, []) => put_text(hands, alloc, out, facets, Unit::Whole, usize::MAX)?,
-        (Printing::Text, [unit]) => put_text(
-            hands,
-            alloc,
-            out,
-            facets,
-            unit_of(*unit)?,
-            usize::MAX,
-        )?,
+        (Printing::Text, []) => put_text(alloc, out, facets, Unit::Whole, usize::MAX)?,
+        (Printing::Text, [unit]) => put_text(alloc, out, facets, unit_of(*unit)?, usize::MAX)?,
         (Printing::Text, [unit, most]) => {
             let most = usize::try_from(*most).unwrap_or(0);
-            put_text(hands, alloc, out, facets, unit_of(*unit)?, most)?;
+            put_text(alloc, out, facets, unit_of(*unit)?, most)?;
         }
-        (Printing::Same, [unit]) => put_same(hands, alloc, out, facets, unit_of(*unit)?)?,
         _ => return Err(CaseStop::Unread),
     }
     Ok(())

@@ -1,27 +1,24 @@
 //! Things put together by phrases.
 
-use crate::asking::{Hands, ask, asking_of, print, printing_of};
+use crate::asking::{ask, asking_of, print, printing_of};
 use crate::faces::put_face;
 use crate::polygons::{Polygons, shaping_of};
 use crate::solids::{Solids, building_of};
 use crate::tables::{put_tabled, tabling_of};
 use case_lines::{CaseStop, Phrase, Walls, lay, laying_of};
 use std::alloc::Global;
-use std::thread::Threads;
 
-/// Planes, polygons with facets, and solids, and who cuts and writes facets.
+/// Planes, polygons with facets, and solids.
 #[derive(Drop)]
-pub struct Bench<'a, R: Threads + Sync> {
-    hands: Hands<'a, R>,
+pub struct Bench {
     walls: Walls,
     polygons: Polygons,
     solids: Solids,
 }
 
-impl<'a, R: Threads + Sync> Bench<'a, R> {
-    pub fn new(rt: &'a R, alloc: Global) -> Self {
+impl Bench {
+    pub fn new(alloc: Global) -> Self {
         Bench {
-            hands: Hands { rt, workers: None },
             walls: Walls::new(alloc),
             polygons: Polygons {
                 items: Vec::new(alloc),
@@ -44,14 +41,10 @@ impl<'a, R: Threads + Sync> Bench<'a, R> {
         if let Some(asking) = asking_of(word) {
             let solid = self.solids.last()?;
             let facets = &mut self.polygons.facets;
-            ask(&self.hands, alloc, out, asking, numbers, solid, facets)
+            ask(alloc, out, asking, numbers, solid, facets)
         } else if let Some(printing) = printing_of(word) {
             let facets = &self.polygons.facets;
-            print(&self.hands, alloc, out, printing, numbers, facets)
-        } else if word == b"workers".as_slice() {
-            let workers = numbers.first().ok_or(CaseStop::Unread)?;
-            self.hands.workers = u64::try_from(*workers).ok();
-            Ok(())
+            print(alloc, out, printing, numbers, facets)
         } else if word == b"face".as_slice() {
             let plane = self.walls.last().ok_or(CaseStop::Unread)?;
             put_face(alloc, out, &plane)
@@ -62,7 +55,7 @@ impl<'a, R: Threads + Sync> Bench<'a, R> {
         }
     }
 
-    /// Does what a phrase says, and writes what it asks. No trait's method: one doesn't know that workers may share `R`.
+    /// Does what a phrase says, and writes what it asks.
     pub fn follow(
         &mut self,
         alloc: Global,

@@ -29,8 +29,7 @@
 //!
 //! Facets: `facets MOST` asks how many the last solid has, and keeps them. `planes`, `around AT` (the corners of one), `text`,
 //! `text 2` (in half units) and `text UNIT N` (its first N bytes) ask for what is kept; a stroke `|` stands for each newline of
-//! a text. `workers N` lets N workers cut and write from there on, and `same UNIT` asks whether they write what one thread
-//! writes.
+//! a text.
 #![tactic(auto)]
 
 mod asking;
@@ -48,16 +47,14 @@ use crate::questions::put_about;
 use case_lines::{CaseStop, answer_cases, cut, phrases_of, put_next, unfolded};
 use std::alloc::Global;
 use std::process::ExitCode;
-use std::thread::Threads;
 
 // The answers of phrases that build.
-fn put_built<R: Threads + Sync>(
-    rt: &R,
+fn put_built(
     alloc: Global,
     out: &mut Vec<u8>,
     text: &[u8],
 ) -> Result<(), CaseStop> {
-    let mut bench = Bench::new(rt, alloc);
+    let mut bench = Bench::new(alloc);
     let from = out.len();
     for phrase in &phrases_of(alloc, text)? {
         let mut told = Vec::new(alloc);
@@ -68,8 +65,7 @@ fn put_built<R: Threads + Sync>(
 }
 
 // The answer of a question about numbers, or of phrases that build.
-fn put_answer<R: Threads + Sync>(
-    rt: &R,
+fn put_answer(
     alloc: Global,
     out: &mut Vec<u8>,
     case: &[u8],
@@ -77,7 +73,7 @@ fn put_answer<R: Threads + Sync>(
     let text = unfolded(alloc, case)?;
     let (asked, rest) = cut(&text);
     if asked == b"build".as_slice() {
-        put_built(rt, alloc, out, rest)
+        put_built(alloc, out, rest)
     } else {
         let phrases = phrases_of(alloc, &text)?;
         put_about(alloc, out, phrases.first().ok_or(CaseStop::Unread)?)
@@ -85,11 +81,9 @@ fn put_answer<R: Threads + Sync>(
 }
 
 fn main(rt: HostRuntime) -> ExitCode {
-    let threads = &rt;
+    let alloc = rt.alloc();
     answer_cases(
         &rt,
-        |out: &mut Vec<u8>, case: &[u8]| -> Result<(), CaseStop> {
-            put_answer(threads, threads.alloc(), out, case)
-        },
+        |out: &mut Vec<u8>, case: &[u8]| -> Result<(), CaseStop> { put_answer(alloc, out, case) },
     )
 }

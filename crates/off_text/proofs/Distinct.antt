@@ -8,7 +8,7 @@ use Rattle.indexmap.specs.IndexSet.{insert_key}
 use Rattle.plane_predicate.specs.Space.{Coordinates, has_same_numbers}
 use Rattle.off_text.specs.Texts.{distinct_points}
 use Rattle.off_text.specs.Numbering.{with_points}
-use Rattle.off_text.proofs.Numbers.{Known, AllKnown, same_itself, same_equal, grown_knows, with_points-append}
+use Rattle.off_text.proofs.Numbers.{same_itself, same_equal}
 
 -- the point is not numbered yet
 abbrev is_new : List Coordinates → Coordinates → Bool
@@ -86,25 +86,3 @@ with_points-distinct_points (p ∷ points) vertices =
 
 pub grown_from_none : (points : List Coordinates) → with_points [] points ≡ distinct_points points
 grown_from_none points = with_points-distinct_points points [] ∙ filter-all (distinct_points points)
-
-known_step : (vertices : List Coordinates) (p q : Coordinates) (b t : Bool) → has_same_numbers p q ≡ b → Known vertices q → (t ≡ true → Known vertices p) → (b || t) ≡ true → Known vertices p
-known_step vertices p q true t e h more any = subst (λ (r : Coordinates). Known vertices r) (sym (same_equal p q e)) h
-known_step vertices p q false t e h more any = more any
-
--- what is among numbered points is numbered
-known_among : (vertices points : List Coordinates) (p : Coordinates) → AllKnown vertices points → Known points p → Known vertices p
-known_among vertices [] p h e = absurd (false≢true e)
-known_among vertices (q ∷ points) p h e = known_step vertices p q (has_same_numbers p q) (list_any (has_same_numbers p) points) refl h.0 (known_among vertices points p h.1) e
-
-inserted_step : (vertices points : List Coordinates) (p : Coordinates) (b : Bool) → list_any (has_same_numbers p) points ≡ b →
-    with_points vertices (cond b points (points ++ p ∷ [])) ≡ insert_key has_same_numbers (with_points vertices points) p
-inserted_step vertices points p true e =
-    sym (ap (λ (b : Bool). cond b (with_points vertices points) (with_points vertices points ++ p ∷ [])) (known_among (with_points vertices points) points p (grown_knows points vertices) e))
-inserted_step vertices points p false e = with_points-append points (p ∷ []) vertices
-
--- the vertices of points are put to others as the points are
-pub grown_twice : (points vertices known : List Coordinates) → with_points vertices (with_points known points) ≡ with_points (with_points vertices known) points
-grown_twice [] vertices known = refl
-grown_twice (p ∷ points) vertices known =
-    grown_twice points vertices (insert_key has_same_numbers known p)
-    ∙ ap (λ (v : List Coordinates). with_points v points) (inserted_step vertices known p (list_any (has_same_numbers p) known) refl)

@@ -11,9 +11,7 @@ pub mod Cornered
 pub mod Halves
 pub mod Printed
 pub mod Lines
-pub mod Renamed
-pub mod Cut
-pub mod Together
+pub mod OwnLines
 pub mod Drawn
 pub mod Covered
 pub mod OwnVertices

@@ -1,13 +1,11 @@
 -- Texts that are written piece by piece.
-use Rattle.std.proofs.Common.{◌≡◌, ℕ, ◌≤◌, List, [], ◌∷◌, ◌++◌, map, length, drop, sym, ap, ap₂, ◌∙◌, append_assoc, append-nil, flat_map, codes}
-use Rattle.std.proofs.lemmas.List.{drop_all, length-map}
-use Rattle.std.proofs.lemmas.List.Folds.{flat_map-map}
+use Rattle.std.proofs.Common.{◌≡◌, ℕ, ◌≤◌, List, [], ◌∷◌, ◌++◌, length, drop, sym, ap, ◌∙◌, append_assoc, append-nil, flat_map, codes}
+use Rattle.std.proofs.lemmas.List.{drop_all}
 use Rattle.plain_text.specs.Decimals.{numeral, signed_numeral}
 use Rattle.plane_predicate.specs.Space.{Coordinates}
 use Rattle.off_text.specs.Reading.{vertex_line, face_line, off_text}
 use Rattle.off_text.specs.Numbering.{number_word}
 use Rattle.off_text.proofs.OneReading.{off_text-counts}
-use Rattle.plain_text.specs.Separators.{space}
 
 -- what was written of a list, once none of it is left
 pub all_written : {A : Type 0} (f : A → List ℕ) (xs : List A) (i : ℕ) (out whole : List ℕ) → length xs ≤ i → out ++ flat_map f (drop i xs) ≡ whole → out ≡ whole
@@ -20,13 +18,12 @@ vertex_line-written out p = simp append_assoc
 line_pieces : (out count words : List ℕ) → ((out ++ count) ++ words) ++ 10 ∷ [] ≡ out ++ ((count ++ words) ++ 10 ∷ [])
 line_pieces out count words = simp append_assoc
 
--- a face's line, whose vertices have names
-pub line_written : (name : ℕ → ℕ) (face out counted all line : List ℕ) → counted ≡ out ++ numeral (length face) → all ≡ counted ++ flat_map (λ i. number_word (name i)) face →
-    line ≡ all ++ 10 ∷ [] → line ≡ out ++ face_line (map name face)
-line_written name face out counted all line c a l =
-    l ∙ ap (λ (t : List ℕ). t ++ 10 ∷ []) (a ∙ ap (λ (t : List ℕ). t ++ flat_map (λ i. number_word (name i)) face) c)
-    ∙ line_pieces out (numeral (length face)) (flat_map (λ i. number_word (name i)) face)
-    ∙ ap₂ (λ (n : ℕ) (t : List ℕ). out ++ ((numeral n ++ t) ++ 10 ∷ [])) (sym (length-map face name)) (sym (flat_map-map (λ (i : ℕ). space ++ numeral i) name face))
+-- a face's line
+pub line_written : (face out counted all line : List ℕ) → counted ≡ out ++ numeral (length face) → all ≡ counted ++ flat_map number_word face →
+    line ≡ all ++ 10 ∷ [] → line ≡ out ++ face_line face
+line_written face out counted all line c a l =
+    l ∙ ap (λ (t : List ℕ). t ++ 10 ∷ []) (a ∙ ap (λ (t : List ℕ). t ++ flat_map number_word face) c)
+    ∙ line_pieces out (numeral (length face)) (flat_map number_word face)
 
 counted : (v f vs fs : List ℕ) → ((((codes "4OFF\n" ++ v) ++ 32 ∷ f) ++ codes " 0\n") ++ vs) ++ fs ≡ codes "4OFF\n" ++ (v ++ 32 ∷ (f ++ 32 ∷ 48 ∷ 10 ∷ (vs ++ fs)))
 counted v f vs fs = simp append_assoc

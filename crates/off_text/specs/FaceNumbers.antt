@@ -1,5 +1,5 @@
 -- Faces by the numbers of their vertices, and their lines.
-use Rattle.std.specs.Prelude.{◌≡◌, ℕ, List, [], ◌∷◌, ◌++◌, map, flat_map, length, take, drop, slice_index_or}
+use Rattle.std.specs.Prelude.{◌≡◌, ℕ, List, [], ◌∷◌, ◌++◌, map, flat_map, length, take, drop}
 use Rattle.plane_predicate.specs.declared.unit.Unit.{Unit as LengthUnit}
 use Rattle.plane_predicate.specs.Space.{Coordinates}
 use Rattle.plane_polygon.specs.Polygons.{Outline}
@@ -34,16 +34,11 @@ pub record HaveNumbers (unit : LengthUnit) (polygons : List Outline) (vertices :
   pub sides : all.sides.items ≡ corner_counts faces
   pub numbers : all.numbers.items ≡ all_numbers faces
 
--- the name at a vertex's number, or the number where there is no name
-abbrev pub new_number : List ℕ → ℕ → ℕ
-new_number names i = slice_index_or names i i
+-- the lines of faces that have the given number of corners, one face after another, by these numbers of vertices
+abbrev pub lines_from : List ℕ → List ℕ → List ℕ
+lines_from [] numbers = []
+lines_from (count ∷ sides) numbers = face_line (take count numbers) ++ lines_from sides (drop count numbers)
 
--- the lines of faces that have the given number of corners, one face after another, by these numbers of vertices with these
--- names
-abbrev pub lines_from : List ℕ → List ℕ → List ℕ → List ℕ
-lines_from names [] numbers = []
-lines_from names (count ∷ sides) numbers = face_line (map (new_number names) (take count numbers)) ++ lines_from names sides (drop count numbers)
-
--- the lines of faces whose vertices have these names
-abbrev pub lines_of : List ℕ → FaceNumbers → List ℕ
-lines_of names faces = lines_from names faces.sides.items faces.numbers.items
+-- the lines of faces
+abbrev pub lines_of : FaceNumbers → List ℕ
+lines_of faces = lines_from faces.sides.items faces.numbers.items

@@ -4,6 +4,5 @@ pub mod Vertices
 pub mod Texts
 pub mod Numbering
 pub mod FaceNumbers
-pub mod Parts
 pub mod Prints
 pub mod Bounding

@@ -6,7 +6,6 @@ mod laws;
 mod lowest;
 mod numbering;
 mod part;
-mod parts;
 mod text;
 mod vertex;
 mod writing;
@@ -17,4 +16,4 @@ pub use laws::{
     vertices_are_corners,
 };
 pub use lowest::lowest_terms;
-pub use text::{OffStop, off_bytes, off_bytes_by};
+pub use text::{OffStop, off_bytes};

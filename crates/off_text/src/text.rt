@@ -11,13 +11,11 @@ ghost use Rattle.off_text.specs.Prints.{Prints};
 ghost use Rattle.off_text.specs.declared.text.OffStop.{OffStop};
 
 use crate::part::number_facets;
-use crate::parts::{number_facets_by, part_length, write_text_by};
 use crate::writing::write_text;
 use facet_cut::Facet;
 use plain_text::NoMemory;
 use plane_predicate::Unit;
 use std::alloc::Global;
-use std::thread::Threads;
 
 // The most corners of all faces together.
 const CORNERS: usize = 200_000;
@@ -89,45 +87,4 @@ pub fn off_bytes(alloc: Global, facets: &[Facet], unit: Unit) -> Result<Vec<u8>,
         return Err(OffStop::TooManyVertices);
     }
     Ok(write_text(alloc, part.vertices.as_slice(), facets.len(), &part.faces)?)
-}
-
-/// The text that `off_bytes` gives, and its limits, by at most the given number of workers. Each of them numbers
-/// the corners of a part of the facets by itself, and once the vertices of all parts are put together,
-/// one part after another, each writes lines. Few facets are one worker's.
-pub fn off_bytes_by<R: Threads + Sync>(
-    rt: &R,
-    alloc: Global,
-    workers: u64,
-    facets: &[Facet],
-    unit: Unit,
-) -> Result<Vec<u8>, OffStop>
-    ensures text { IfOk result (λ text. IsTextOf unit facets.now text.items) }
-    ensures corners { IsErrOf result OffStop.TooManyCorners ↔
-        (most_corners < corner_count facets.now) }
-    ensures few { OnOk result (HasVertices unit (λ count. count ≤ most_vertices) facets.now) }
-    ensures many { IsErrOf result OffStop.TooManyVertices →
-        HasVertices unit (λ count. most_vertices < count) facets.now }
-    // The text is read back as the facets, one face after another.
-    ensures prints { IfOk result (λ text. Prints unit facets.now text.items) }
-    // Where the facets are those of the solid of a proper tree, the text is the boundary of the tree.
-    ensures boundary { IfOk result
-        (λ text. (f : Tree) → IsProper f → facets.now ≡ facets_of (solid_of f) →
-        IsBoundary unit text.items f) }
-{
-    let size = part_length(facets.len(), workers);
-    if facets.len() <= size || has_too_many_corners(facets) {
-        return off_bytes(alloc, facets, unit);
-    }
-    let merged = number_facets_by(rt, alloc, size, facets, unit)?;
-    if merged.vertices.len() > VERTICES {
-        return Err(OffStop::TooManyVertices);
-    }
-    Ok(write_text_by(
-        rt,
-        alloc,
-        workers,
-        merged.vertices.as_slice(),
-        facets.len(),
-        &merged.parts,
-    )?)
 }

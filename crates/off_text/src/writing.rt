@@ -1,9 +1,9 @@
 //! The lines of a 4OFF text.
 
-ghost use Rattle.std.specs.Prelude.{◌≡◌, ◌++◌, ◌∷◌, [], codes, map, flat_map, length, OnOk, IfOk};
+ghost use Rattle.std.specs.Prelude.{◌≡◌, ◌++◌, ◌∷◌, codes, flat_map, length, OnOk, IfOk};
 ghost use Rattle.plain_text.specs.Decimals.{numeral};
 ghost use Rattle.off_text.specs.Reading.{vertex_line, face_line};
-ghost use Rattle.off_text.specs.FaceNumbers.{new_number, lines_of};
+ghost use Rattle.off_text.specs.FaceNumbers.{lines_of};
 
 use crate::numbering::FaceNumbers;
 use crate::vertex::Vertex;
@@ -32,8 +32,8 @@ fn push_vertex(alloc: Global, out: &mut Vec<u8>, vertex: &Vertex) -> Result<(), 
     Ok(())
 }
 
-/// Appends the lines of vertices.
-pub fn push_vertices(alloc: Global, out: &mut Vec<u8>, vertices: &[Vertex]) -> Result<(), NoMemory>
+// Appends the lines of vertices.
+fn push_vertices(alloc: Global, out: &mut Vec<u8>, vertices: &[Vertex]) -> Result<(), NoMemory>
     ensures { OnOk result (out.new.items ≡ out.old.items ++ flat_map vertex_line vertices.now) }
 {
     for vertex in vertices {
@@ -42,50 +42,34 @@ pub fn push_vertices(alloc: Global, out: &mut Vec<u8>, vertices: &[Vertex]) -> R
     Ok(())
 }
 
-// The name at a vertex's number, among the names that are given, or the number where there is no name.
-fn new_number(number: u32, names: &[u32]) -> u32
-    ensures { result ≡ new_number names.now number }
-{
-    match names.get(number as usize) {
-        Some(name) => *name,
-        None => number,
-    }
-}
-
-// Appends the line of a face with these numbers, whose vertices have these names.
-fn push_line(alloc: Global, out: &mut Vec<u8>, face: &[u32], names: &[u32]) -> Result<(), NoMemory>
-    ensures { OnOk result
-        (out.new.items ≡ out.old.items ++ face_line (map (new_number names.now) face.now)) }
+// Appends the line of a face with these numbers.
+fn push_line(alloc: Global, out: &mut Vec<u8>, face: &[u32]) -> Result<(), NoMemory>
+    ensures { OnOk result (out.new.items ≡ out.old.items ++ face_line face.now) }
 {
     push_count(alloc, out, face.len())?;
     for number in face {
         out.push(b' ')?;
-        push_count(alloc, out, new_number(*number, names) as usize)?;
+        push_count(alloc, out, *number as usize)?;
     }
     out.push(b'\n')?;
     Ok(())
 }
 
-/// Appends the lines of faces whose vertices have these names.
-pub fn push_lines(
-    alloc: Global,
-    out: &mut Vec<u8>,
-    faces: &FaceNumbers,
-    names: &[u32],
-) -> Result<(), NoMemory>
-    ensures { OnOk result (out.new.items ≡ out.old.items ++ lines_of names.now faces.now) }
+// Appends the lines of faces.
+fn push_lines(alloc: Global, out: &mut Vec<u8>, faces: &FaceNumbers) -> Result<(), NoMemory>
+    ensures { OnOk result (out.new.items ≡ out.old.items ++ lines_of faces.now) }
 {
     let mut left = faces.numbers.as_slice();
     for count in &faces.sides {
         let (face, rest) = left.split_at((*count as usize).min(left.len()));
-        push_line(alloc, out, face, names)?;
+        push_line(alloc, out, face)?;
         left = rest;
     }
     Ok(())
 }
 
-/// The first two lines: the counts, with a 0 for the edges.
-pub fn first_lines(alloc: Global, vertices: usize, faces: usize) -> Result<Vec<u8>, NoMemory>
+// The first two lines: the counts, with a 0 for the edges.
+fn first_lines(alloc: Global, vertices: usize, faces: usize) -> Result<Vec<u8>, NoMemory>
     ensures { IfOk result
         (λ text. text.items ≡ codes "4OFF\n" ++ numeral vertices ++ 32 ∷ numeral faces
         ++ codes " 0\n") }
@@ -107,10 +91,10 @@ pub fn write_text(
 ) -> Result<Vec<u8>, NoMemory>
     ensures { IfOk result
         (λ text. text.items ≡ codes "4OFF\n" ++ numeral (length vertices.now) ++ 32 ∷ numeral count
-        ++ codes " 0\n" ++ flat_map vertex_line vertices.now ++ lines_of [] faces.now) }
+        ++ codes " 0\n" ++ flat_map vertex_line vertices.now ++ lines_of faces.now) }
 {
     let mut text = first_lines(alloc, vertices.len(), count)?;
     push_vertices(alloc, &mut text, vertices)?;
-    push_lines(alloc, &mut text, faces, &[])?;
+    push_lines(alloc, &mut text, faces)?;
     Ok(text)
 }

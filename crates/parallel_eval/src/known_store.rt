@@ -15,7 +15,6 @@ use plain_text::NoMemory;
 use std::alloc::Global;
 use std::marker::Model;
 use std::sync::Arc;
-use std::thread::Threads;
 
 // The most that the solids of leaves which are known may be in size together: 2 MiB at 64 bytes each.
 const MOST_KNOWN: u64 = 32_768;
@@ -46,21 +45,15 @@ impl Model for KnownStore {
 }
 
 impl KnownStore {
-    /// A store with the names of its joins, which at most the given number of workers make at the same time where threads can
-    /// be made. No solid of a leaf is known.
-    pub fn new<R: Threads + Sync>(
-        rt: &R,
-        alloc: Global,
-        workers: u64,
-        store: Arc<CsgStore>,
-    ) -> Result<KnownStore, NoMemory>
+    /// A store with the names of its joins. No solid of a leaf is known.
+    pub fn new(alloc: Global, store: Arc<CsgStore>) -> Result<KnownStore, NoMemory>
         ensures { IfOk result (λ known. known ≡ arc_value store) }
     {
         let mut leaves = Vec::new(alloc);
         for _number in 0..store.len() {
             leaves.push(None)?;
         }
-        let named = NamedStore::new(rt, alloc, workers, store)?;
+        let named = NamedStore::new(alloc, store)?;
         Ok(KnownStore { named, leaves })
     }
 

@@ -123,11 +123,9 @@ impl<B: FlightBooks> Client<B> {
     }
 }
 
-// A store with what the last one knows of it, or else with names that the given number of workers make.
-fn known<R: Threads + Sync>(
-    rt: &R,
+// A store with what the last one knows of it, or else with the names that are made of it.
+fn known(
     alloc: Global,
-    workers: u64,
     last: &Option<KnownStore>,
     store: Arc<CsgStore>,
 ) -> Result<KnownStore, NoMemory>
@@ -135,7 +133,7 @@ fn known<R: Threads + Sync>(
 {
     match last {
         Some(last) => KnownStore::over(alloc, store, last),
-        None => KnownStore::new(rt, alloc, workers, store),
+        None => KnownStore::new(alloc, store),
     }
 }
 
@@ -185,7 +183,7 @@ fn solid_for<
     made
 }
 
-// The export of a tree for a client, by the given number of workers.
+// The export of a tree for a client, whose solid is built by the given number of builders.
 #[tactic(auto, using(crate::proofs::Probed::export_probed, crate::proofs::Probed::unasked, crate::proofs::Probed::none_asked))]
 fn exported<
     'a,
@@ -221,20 +219,12 @@ fn exported<
     let store = nodes_of_tree(builds.alloc, tree)?;
     if store.len() == 0 {
         let solid = solid_of_nothing(builds.alloc)?;
-        return export_made(builds.rt, builds.alloc, workers.count, Ok(solid), unit);
+        return export_made(builds.alloc, Ok(solid), unit);
     }
-    let store = known(builds.rt, builds.alloc, workers.count, &client.last, store)?;
+    let store = known(builds.alloc, &client.last, store)?;
     let key = key_of(&store)?;
     let made = solid_for(builds, client, workers, store);
-    export_kept(
-        builds.rt,
-        builds.alloc,
-        workers.count,
-        &mut client.kept,
-        unit,
-        key,
-        made,
-    )
+    export_kept(builds.alloc, &mut client.kept, unit, key, made)
 }
 
 // The reply to the export of a source that has no tree: no solid is asked for.
@@ -252,7 +242,7 @@ fn refused(stop: Stop) -> Result<Reply, NoMemory>
     }
 }
 
-// The reply to the export of a client's source, by the given number of workers.
+// The reply to the export of a client's source, whose solid is built by the given number of builders.
 fn answer<
     'a,
     N: Namer<TreeKey> + Send + Sync,
@@ -284,7 +274,7 @@ fn answer<
     }
 }
 
-/// The reply to the export of a client's source, by the workers that are the client's part of those under way.
+/// The reply to the export of a client's source, whose solid is built by the client's part of the builders under way.
 pub fn export_source<
     'a,
     N: Namer<TreeKey> + Send + Sync,

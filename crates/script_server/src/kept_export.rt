@@ -14,7 +14,6 @@ use plane_predicate::Unit;
 use std::alloc::Global;
 use std::marker::Model;
 use std::sync::Arc;
-use std::thread::Threads;
 use text_place::{Bytes, NoMemory};
 use tree_export::{TreeExport, export_made};
 
@@ -79,10 +78,8 @@ impl KeptExport {
 }
 
 // The export of a tree from its solid, or what was kept where that is it.
-fn given_or_cut<R: Threads + Sync>(
-    rt: &R,
+fn given_or_cut(
     alloc: Global,
-    workers: u64,
     last: Option<KeptExport>,
     unit: Unit,
     key: &TreeKey,
@@ -98,14 +95,12 @@ fn given_or_cut<R: Threads + Sync>(
             return Ok(given);
         }
     }
-    export_made(rt, alloc, workers, Ok(solid), unit)
+    export_made(alloc, Ok(solid), unit)
 }
 
 // The same from the solid that was made or the first node that passed a limit of size.
-fn given_or_made<R: Threads + Sync>(
-    rt: &R,
+fn given_or_made(
     alloc: Global,
-    workers: u64,
     last: Option<KeptExport>,
     unit: Unit,
     key: &TreeKey,
@@ -119,18 +114,16 @@ fn given_or_made<R: Threads + Sync>(
         (passed : Limit) × IsSizeLimit passed × (out ≡ exported.PassedLimit passed))) }
 {
     match made {
-        Ok(solid) => given_or_cut(rt, alloc, workers, last, unit, key, solid),
-        Err(stop) => export_made(rt, alloc, workers, Err(stop), unit),
+        Ok(solid) => given_or_cut(alloc, last, unit, key, solid),
+        Err(stop) => export_made(alloc, Err(stop), unit),
     }
 }
 
 /// The export of a tree from the solid that was made of it or the first node that passed a limit of size, as `export_made`
-/// gives it, by the given number of workers. Where the same was kept, its facets and its text aren't made anew. Afterwards it
-/// is kept itself, where it is a text of at most 4 MiB and there is memory for a copy.
-pub fn export_kept<R: Threads + Sync>(
-    rt: &R,
+/// gives it. Where the same was kept, its facets and its text aren't made anew. Afterwards it is kept itself, where it is a
+/// text of at most 4 MiB and there is memory for a copy.
+pub fn export_kept(
     alloc: Global,
-    workers: u64,
     kept: &mut Option<KeptExport>,
     unit: Unit,
     key: TreeKey,
@@ -144,7 +137,7 @@ pub fn export_kept<R: Threads + Sync>(
         (passed : Limit) × IsSizeLimit passed × (out ≡ exported.PassedLimit passed))) }
 {
     let last = kept.take();
-    let given = given_or_made(rt, alloc, workers, last, unit, &key, made)?;
+    let given = given_or_made(alloc, last, unit, &key, made)?;
     *kept = KeptExport::of(alloc, unit, key, &given);
     Ok(given)
 }

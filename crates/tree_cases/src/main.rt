@@ -4,7 +4,7 @@
 //! length of that line, `alike` for whether the lines of the last two are the same, and `halves` for the union by halves of
 //! all. `key` asks for the number of its bytes, `nodes` for the number of its nodes, `node N` for one, `same M N` for two keys,
 //! `size` for the size of its solid, `export UNIT` for its text, or the limit that it exceeds, and `export UNIT N` for the
-//! first N bytes. `workers N` lets N workers export from there on.
+//! first N bytes.
 #![tactic(auto)]
 
 mod proper;
@@ -16,11 +16,9 @@ use crate::trees::Trees;
 use case_lines::{CaseStop, answer_cases, cut, phrases_of, put_next, unfolded};
 use std::alloc::Global;
 use std::process::ExitCode;
-use std::thread::Threads;
 
 // The answer of phrases that put trees.
-fn put_answer<R: Threads + Sync>(
-    rt: &R,
+fn put_answer(
     alloc: Global,
     out: &mut Vec<u8>,
     case: &[u8],
@@ -30,7 +28,7 @@ fn put_answer<R: Threads + Sync>(
     if asked != b"tree".as_slice() {
         return Err(CaseStop::Unread);
     }
-    let mut trees = Trees::new(rt, alloc);
+    let mut trees = Trees::new(alloc);
     let from = out.len();
     for phrase in &phrases_of(alloc, rest)? {
         let mut told = Vec::new(alloc);
@@ -41,11 +39,9 @@ fn put_answer<R: Threads + Sync>(
 }
 
 fn main(rt: HostRuntime) -> ExitCode {
-    let threads = &rt;
+    let alloc = rt.alloc();
     answer_cases(
         &rt,
-        |out: &mut Vec<u8>, case: &[u8]| -> Result<(), CaseStop> {
-            put_answer(threads, threads.alloc(), out, case)
-        },
+        |out: &mut Vec<u8>, case: &[u8]| -> Result<(), CaseStop> { put_answer(alloc, out, case) },
     )
 }

@@ -9,7 +9,6 @@ use export_limits::PassedLimit;
 use plane_predicate::Unit;
 use std::alloc::Global;
 use std::sync::Arc;
-use std::thread::Threads;
 use tree_export::{TreeExport, export_tree};
 
 #[derive(Clone, Copy)]
@@ -150,27 +149,23 @@ fn put_complex(alloc: Global, out: &mut Vec<u8>, passed: PassedLimit) -> Result<
 }
 
 // The first bytes of a tree's text in a unit, or the first limit that it passes.
-fn put_export<R: Threads + Sync>(
-    rt: &R,
+fn put_export(
     alloc: Global,
-    workers: u64,
     out: &mut Vec<u8>,
     tree: &ProperTree,
     unit: Unit,
     most: usize,
 ) -> Result<(), CaseStop> {
-    match export_tree(rt, alloc, workers, tree.tree(), unit)? {
+    match export_tree(alloc, tree.tree(), unit)? {
         TreeExport::Text(text) => put_stroked(out, text.items(), most)?,
         TreeExport::PassedLimit(passed) => put_complex(alloc, out, passed)?,
     }
     Ok(())
 }
 
-/// What a phrase writes of a tree, whose export is cut and written by the given number of workers.
-pub fn ask_tree<R: Threads + Sync>(
-    rt: &R,
+/// What a phrase writes of a tree.
+pub fn ask_tree(
     alloc: Global,
-    workers: u64,
     out: &mut Vec<u8>,
     asking: TreeAsking,
     numbers: &[i64],
@@ -195,11 +190,11 @@ pub fn ask_tree<R: Threads + Sync>(
         (TreeAsking::Same, [first, second]) => put_same(alloc, out, tree, *first, *second)?,
         (TreeAsking::Size, []) => put_tree_size(alloc, out, tree)?,
         (TreeAsking::Export, [unit]) => {
-            put_export(rt, alloc, workers, out, tree, unit_of(*unit)?, usize::MAX)?;
+            put_export(alloc, out, tree, unit_of(*unit)?, usize::MAX)?;
         }
         (TreeAsking::Export, [unit, most]) => {
             let most = usize::try_from(*most).unwrap_or(0);
-            put_export(rt, alloc, workers, out, tree, unit_of(*unit)?, most)?;
+            put_export(alloc, out, tree, unit_of(*unit)?, most)?;
         }
         _ => return Err(CaseStop::Unread),
     }

@@ -6,7 +6,6 @@ use crate::written::{put_alike, put_halves};
 use case_lines::{CaseStop, Phrase, Walls, box_walls, found, lay, laying_of, slab_walls};
 use csg_tree::Op;
 use std::alloc::Global;
-use std::thread::Threads;
 
 #[derive(Clone, Copy)]
 enum Planting {
@@ -46,20 +45,16 @@ fn slabs(alloc: Global, axis: i64, from: i64, count: i64) -> Result<ProperTree, 
     Ok(all)
 }
 
-/// Trees in the order in which they were put, the planes for the next leaf, and how many workers export.
+/// Trees in the order in which they were put, and the planes for the next leaf.
 #[derive(Drop)]
-pub struct Trees<'a, R: Threads + Sync> {
-    rt: &'a R,
-    workers: u64,
+pub struct Trees {
     walls: Walls,
     items: Vec<ProperTree>,
 }
 
-impl<'a, R: Threads + Sync> Trees<'a, R> {
-    pub fn new(rt: &'a R, alloc: Global) -> Self {
+impl Trees {
+    pub fn new(alloc: Global) -> Self {
         Trees {
-            rt,
-            workers: 1,
             walls: Walls::new(alloc),
             items: Vec::new(alloc),
         }
@@ -119,7 +114,7 @@ impl<'a, R: Threads + Sync> Trees<'a, R> {
         }
     }
 
-    /// Does what a phrase says, and writes what it asks. No trait's method: one doesn't know that workers may share `R`.
+    /// Does what a phrase says, and writes what it asks.
     pub fn follow(
         &mut self,
         alloc: Global,
@@ -131,13 +126,9 @@ impl<'a, R: Threads + Sync> Trees<'a, R> {
             lay(&mut self.walls, laying, numbers)
         } else if let Some(planting) = found(&PLANTINGS, word) {
             self.plant(alloc, out, planting, numbers)
-        } else if word == b"workers".as_slice() {
-            let workers = numbers.first().ok_or(CaseStop::Unread)?;
-            self.workers = u64::try_from(*workers).map_err(|_| CaseStop::Unread)?;
-            Ok(())
         } else if let Some(asking) = tree_asking_of(word) {
             let tree = self.last()?;
-            ask_tree(self.rt, alloc, self.workers, out, asking, numbers, tree)
+            ask_tree(alloc, out, asking, numbers, tree)
         } else {
             Err(CaseStop::Unread)
         }

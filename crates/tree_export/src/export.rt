@@ -20,13 +20,12 @@ use bsp_boolean::{PlainBuilder, TreeStop, tree_solid};
 use bsp_tree::Solid;
 use csg_tree::{CsgStore, CsgTree};
 use export_limits::PassedLimit;
-use facet_cut::{CutStop, Facet, facets_by};
-use off_text::{OffStop, off_bytes_by};
+use facet_cut::{CutStop, Facet, facets};
+use off_text::{OffStop, off_bytes};
 use plain_text::{Bytes, NoMemory};
 use plane_predicate::Unit;
 use std::alloc::Global;
 use std::sync::Arc;
-use std::thread::Threads;
 
 // The most facets of an export.
 const FACETS: u32 = 20_000;
@@ -40,19 +39,13 @@ pub enum TreeExport {
     PassedLimit(PassedLimit),
 }
 
-// What facets within their limit give, by the given number of workers.
-fn write_facets<R: Threads + Sync>(
-    rt: &R,
-    alloc: Global,
-    workers: u64,
-    facets: &[Facet],
-    unit: Unit,
-) -> Result<TreeExport, NoMemory>
+// What facets within their limit give.
+fn write_facets(alloc: Global, facets: &[Facet], unit: Unit) -> Result<TreeExport, NoMemory>
     ensures written { IfOk result (IsTextOutcome unit facets.now) }
     ensures boundary { (f : Tree) → IsProper f → facets.now ≡ facets_of (solid_of f) →
         IfOk result (IsBoundaryText unit f) }
 {
-    match off_bytes_by(rt, alloc, workers, facets, unit) {
+    match off_bytes(alloc, facets, unit) {
         Ok(bytes) => Ok(TreeExport::Text(Bytes::of(bytes))),
         Err(OffStop::TooManyCorners) => Ok(TreeExport::PassedLimit(PassedLimit::Corners)),
         Err(OffStop::TooManyVertices) => Ok(TreeExport::PassedLimit(PassedLimit::Vertices)),
@@ -60,20 +53,14 @@ fn write_facets<R: Threads + Sync>(
     }
 }
 
-// What a solid within the limits of size gives, by the given number of workers.
-fn cut_solid<R: Threads + Sync>(
-    rt: &R,
-    alloc: Global,
-    workers: u64,
-    solid: &Solid,
-    unit: Unit,
-) -> Result<TreeExport, NoMemory>
+// What a solid within the limits of size gives.
+fn cut_solid(alloc: Global, solid: &Solid, unit: Unit) -> Result<TreeExport, NoMemory>
     ensures cut { IfOk result (IsFacetOutcome unit (facets_of (tree_of solid.now))) }
     ensures boundary { (f : Tree) → IsProper f → tree_of solid.now ≡ solid_of f →
         IfOk result (IsBoundaryText unit f) }
 {
-    match facets_by(rt, alloc, workers, solid, FACETS) {
-        Ok(facets) => write_facets(rt, alloc, workers, &facets, unit),
+    match facets(alloc, solid, FACETS) {
+        Ok(facets) => write_facets(alloc, &facets, unit),
         Err(CutStop::TooMany) => Ok(TreeExport::PassedLimit(PassedLimit::Facets)),
         Err(CutStop::NoMemory) => Err(NoMemory),
     }
@@ -101,16 +88,13 @@ pub fn solid_of_nothing(alloc: Global) -> Result<Arc<Solid>, NoMemory>
     share(alloc, Solid::leaf(alloc, false))
 }
 
-/// The export of a tree as a text in units, from the solid of its last node or the first node that passes a limit of size,
-/// whose facets are cut and written by the given number of workers.
+/// The export of a tree as a text in units, from the solid of its last node or the first node that passes a limit of size.
 ///
 /// `PassedLimit` tells the first limit that is passed: at the first node in order of number at which either is passed,
 /// that the node's solid is above 50,000 in size, or else that the solids up to it are above 500,000 together; then
 /// more than 20,000 facets, more than 200,000 corners, more than 60,000 vertices. Where none is passed it is the text.
-pub fn export_made<R: Threads + Sync>(
-    rt: &R,
+pub fn export_made(
     alloc: Global,
-    workers: u64,
     made: Result<Arc<Solid>, TreeStop>,
     unit: Unit,
 ) -> Result<TreeExport, NoMemory>
@@ -124,7 +108,7 @@ pub fn export_made<R: Threads + Sync>(
         (λ out. (passed : Limit) × IsSizeLimit passed × (out ≡ exported.PassedLimit passed))) }
 {
     match made {
-        Ok(solid) => cut_solid(rt, alloc, workers, &solid, unit),
+        Ok(solid) => cut_solid(alloc, &solid, unit),
         Err(TreeStop::TooBig(number)) => Ok(TreeExport::PassedLimit(PassedLimit::Solid(number))),
         Err(TreeStop::SumTooBig(number)) => Ok(TreeExport::PassedLimit(PassedLimit::Sum(number))),
         Err(TreeStop::NoMemory) => Err(NoMemory),
@@ -147,17 +131,11 @@ fn solid_within(alloc: Global, tree: &CsgTree) -> Result<Arc<Solid>, TreeStop>
 }
 
 /// The export of a proper tree, whose planes are in grid steps, without a memo: `export_made` of its solid.
-pub fn export_tree<R: Threads + Sync>(
-    rt: &R,
-    alloc: Global,
-    workers: u64,
-    tree: &CsgTree,
-    unit: Unit,
-) -> Result<TreeExport, NoMemory>
+pub fn export_tree(alloc: Global, tree: &CsgTree, unit: Unit) -> Result<TreeExport, NoMemory>
     requires { IsProper (plain_tree_of tree.now) }
     ensures exported { IfOk result (IsExported unit (plain_tree_of tree.now)) }
     ensures boundary { IfOk result (IsBoundaryText unit (plain_tree_of tree.now)) }
 {
     let made = solid_within(alloc, tree);
-    export_made(rt, alloc, workers, made, unit)
+    export_made(alloc, made, unit)
 }

@@ -1,9 +1,0 @@
-use Rattle.bsp_tree.specs.Shapes.{tree_of}
-use Rattle.facet_cut.proofs.WholeLists.{list_polygons, list_bound}
-use Rattle.facet_cut.proofs.workers.facets_by.Goals as goal
-
-pub returns-clause-polygons : goal.returns-clause-polygons
-returns-clause-polygons g c = list_polygons (tree_of c.args.solid.now) c.facet_list_by.result c.facet_list_by.ensures.list
-
-pub returns-clause-bound : goal.returns-clause-bound
-returns-clause-bound g c = list_bound (tree_of c.args.solid.now) c.facet_list_by.result c.facet_list_by.ensures.list
