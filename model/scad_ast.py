@@ -212,7 +212,7 @@ class InstanceTerm(NamedTuple):
     """An instance, which is a statement too: its modifiers, and what stands behind them."""
 
     at: Place
-    marks: list[ModifierTerm]
+    modifiers: list[ModifierTerm]
     core: CoreTerm
 
 

@@ -192,11 +192,11 @@ class Parser:
         return ModuleCallTerm(at, name, self.in_parentheses(self.arg, depth), self.body(depth + 1))
 
     def instance(self, depth: int) -> InstanceTerm:
-        at, marks = self.tokens[self.next].at, []
+        at, modifiers = self.tokens[self.next].at, []
         while self.kind() in ("*", "%", "#", "!"):
             mark = self.single_token(self.kind(), depth)
-            marks.append(ModifierTerm(mark.at, mark.kind))
-        return InstanceTerm(at, marks, self.core(depth))
+            modifiers.append(ModifierTerm(mark.at, mark.kind))
+        return InstanceTerm(at, modifiers, self.core(depth))
 
     def body(self, depth: int) -> BodyTerm:
         at = self.tokens[self.next].at

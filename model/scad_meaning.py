@@ -89,7 +89,7 @@ def flat_points(half: bool, call: SquareCall | PolygonCall | CircleCall) -> Poin
 
 
 def has_modifier(instance: InstanceTerm, modifiers: str) -> bool:
-    return bool(instance.marks) and any(mark.modifier in modifiers for mark in instance.marks)
+    return bool(instance.modifiers) and any(mark.modifier in modifiers for mark in instance.modifiers)
 
 
 @once
@@ -463,7 +463,7 @@ def core_design(evaluator: Evaluator, here: Context, core: CoreTerm) -> Instance
 
 
 def instance_design(evaluator: Evaluator, here: Context, instance: InstanceTerm) -> InstanceDesign:
-    """An instance: of marks `!` in one another the outermost one counts. What is marked is the root, and a member of what
+    """An instance: of modifiers `!` in one another the outermost one counts. What is marked is the root, and a member of what
     stands around it as if there were no mark."""
     if not has_modifier(instance, "!"):
         return core_design(evaluator, here, instance.core)

@@ -206,15 +206,15 @@ fn put_binders(alloc: Global, out: &mut Vec<u8>, binders: &[Binder]) -> Result<(
     Ok(())
 }
 
-fn put_marks(alloc: Global, out: &mut Vec<u8>, marks: &[PlacedModifier]) -> Result<(), NoMemory> {
-    for mark in marks {
-        let text = match mark.modifier {
+fn put_modifiers(alloc: Global, out: &mut Vec<u8>, modifiers: &[PlacedModifier]) -> Result<(), NoMemory> {
+    for placed in modifiers {
+        let text = match placed.modifier {
             Modifier::Disable => b"*",
             Modifier::Background => b"%",
             Modifier::Highlight => b"#",
             Modifier::Root => b"!",
         };
-        put_at(alloc, out, text, mark.place)?;
+        put_at(alloc, out, text, placed.place)?;
     }
     Ok(())
 }
@@ -265,7 +265,7 @@ fn put_statement(alloc: Global, out: &mut Vec<u8>, all: &Statement) -> Result<()
 #[cycle(statements)]
 fn put_instance(alloc: Global, out: &mut Vec<u8>, all: &Instance) -> Result<(), NoMemory> {
     put_at(alloc, out, b"<", all.place)?;
-    put_marks(alloc, out, &all.marks.items)?;
+    put_modifiers(alloc, out, &all.modifiers.items)?;
     put_core(alloc, out, &all.core)?;
     put(out, b">")
 }

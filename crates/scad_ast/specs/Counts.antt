@@ -20,7 +20,7 @@ abbrev mutual
 
   -- in an instance: as many as in what its modifiers stand before
   pub count_begun_by_instance : InstanceTerm → ℕ
-  count_begun_by_instance (AnInstance at marks core) = count_begun_by_core core
+  count_begun_by_instance (AnInstance at modifiers core) = count_begun_by_core core
 
   -- in the bodies of an instance without its modifiers
   pub count_begun_by_core : CoreTerm → ℕ

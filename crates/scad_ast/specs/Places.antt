@@ -74,7 +74,7 @@ abbrev mutual
   places_of_statements (and_statement first rest) = places_of_statement first ++ places_of_statements rest
 
   pub places_of_instance : InstanceTerm → List Place
-  places_of_instance (AnInstance at marks core) = at ∷ flat_map places_of_modifier marks ++ places_of_core core
+  places_of_instance (AnInstance at modifiers core) = at ∷ flat_map places_of_modifier modifiers ++ places_of_core core
 
   pub places_of_core : CoreTerm → List Place
   places_of_core (IfTerm at test body) = at ∷ places_of_term test ++ places_of_body body

@@ -35,7 +35,7 @@ abbrev pub modifier_of : PlacedModifier → ModifierTerm
 modifier_of placed = record { at = placed.place; modifier = placed.modifier }
 
 abbrev pub modifiers_of : PlacedModifiers → List ModifierTerm
-modifiers_of marks = map modifier_of marks.items.items
+modifiers_of modifiers = map modifier_of modifiers.items.items
 
 -- one layer of a body, an instance or a statement, with what stands in it seen already
 abbrev pub body_step : Body-F BodyTerm CoreTerm StatementTerm InstanceTerm (List StatementTerm) → BodyTerm
@@ -51,7 +51,7 @@ core_step (IntersectionFor at binders body) = IntersectionForTerm at (binders_of
 core_step (Call at name args body) = ModuleCallTerm at name (args_of args) body.value
 
 abbrev pub instance_step : Instance-F BodyTerm CoreTerm StatementTerm InstanceTerm (List StatementTerm) → InstanceTerm
-instance_step instance = AnInstance instance.place (modifiers_of instance.marks) instance.core
+instance_step instance = AnInstance instance.place (modifiers_of instance.modifiers) instance.core
 
 abbrev pub statement_step : Statement-F BodyTerm CoreTerm StatementTerm InstanceTerm (List StatementTerm) → StatementTerm
 statement_step (Empty at) = EmptyStatement at

@@ -142,7 +142,7 @@ mutual
 
   -- an instance: its modifiers, and what stands behind them
   pub data InstanceTerm : Type 0 where
-    AnInstance : (at : Place) → (marks : List ModifierTerm) → (core : CoreTerm) → InstanceTerm
+    AnInstance : (at : Place) → (modifiers : List ModifierTerm) → (core : CoreTerm) → InstanceTerm
 
   -- an instance without its modifiers: a choice, a loop or a call of a module
   pub data CoreTerm : Type 0 where
@@ -165,7 +165,7 @@ statements_from (statement ∷ statements) = and_statement statement (statements
 
 -- the place of an instance: that of its first token, which is its first modifier where it has one
 abbrev pub place_of_instance : InstanceTerm → Place
-place_of_instance (AnInstance at marks core) = at
+place_of_instance (AnInstance at modifiers core) = at
 
 -- the place of a statement's first token
 abbrev pub place_of_statement : StatementTerm → Place

@@ -80,7 +80,7 @@ pub struct Statements {
 pub struct Instance {
     /// The place of its first token.
     pub place: Place,
-    pub marks: PlacedModifiers,
+    pub modifiers: PlacedModifiers,
     pub core: Core,
 }
 

@@ -23,7 +23,7 @@ mutual
   all_begun (and_statement s rest) = omega (arith, length-append (entities_of s) (entities_in rest), beginnings_begun s, all_begun rest)
 
   instance_begun : (i : InstanceTerm) → length (entities_of_instance i) ≡ count_begun_by_instance i
-  instance_begun (AnInstance at marks core) = core_begun core
+  instance_begun (AnInstance at modifiers core) = core_begun core
 
   core_begun : (c : CoreTerm) → length (entities_of_core c) ≡ count_begun_by_core c
   core_begun (IfTerm at test body) = body_begun body

@@ -122,7 +122,7 @@ module _ (t : BlockTable) where
     order_in (and_statement s rest) = joined (entities_of s) (entities_in rest) (order_of s) (order_in rest)
 
     order_of_instance : (i : InstanceTerm) → InOrder (entities_of_instance i)
-    order_of_instance (AnInstance at marks core) = order_of_core core
+    order_of_instance (AnInstance at modifiers core) = order_of_core core
 
     order_of_core : (c : CoreTerm) → InOrder (entities_of_core c)
     order_of_core (IfTerm at test body) = order_of_body body

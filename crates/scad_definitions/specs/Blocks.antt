@@ -49,7 +49,7 @@ abbrev mutual
 
   -- those of an instance, whose modifiers begin nothing
   pub entities_of_instance : InstanceTerm → List Entity
-  entities_of_instance (AnInstance at marks core) = entities_of_core core
+  entities_of_instance (AnInstance at modifiers core) = entities_of_core core
 
   -- those of its bodies
   pub entities_of_core : CoreTerm → List Entity

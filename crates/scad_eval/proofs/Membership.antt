@@ -19,7 +19,7 @@ flipped false = refl
 
 -- what is a child is a member
 pub child_is_member : (env : Env) (i : InstanceTerm) → (if has_no_geometry env (core_of_instance i) then false else true) ≡ is_child env i
-child_is_member env (AnInstance at marks core) = flipped (has_no_geometry env core)
+child_is_member env (AnInstance at modifiers core) = flipped (has_no_geometry env core)
 
 -- an instance's design, as a member
 as_member_agrees : (b : Bool) (r : Result InstanceResult Stop) (m l : ℕ) (out : Outcome InstanceDesign) → MeetsOutcome (instance_design_of l) r m out

@@ -1,4 +1,4 @@
-//! Instances and their marks.
+//! Instances and their modifiers.
 
 ghost use Rattle.std.specs.Prelude.{All, true, map, if◌then◌else◌};
 ghost use Rattle.csg_tree.specs.declared.op.Op.TheVariants.{Union};
@@ -41,7 +41,7 @@ impl InstanceEvaluator<'_, '_> {
         Ok(made)
     }
 
-    // What an instance gives at its own depth. Of marks `!` in one another the outermost one counts.
+    // What an instance gives at its own depth. Of modifiers `!` in one another the outermost one counts.
     #[cycle(instances)]
     fn by_root_modifier(
         &mut self,
@@ -65,7 +65,7 @@ impl InstanceEvaluator<'_, '_> {
         Ok(as_root(self.evaluation.alloc, made)?)
     }
 
-    // What an instance gives, whatever its marks are.
+    // What an instance gives, whatever its modifiers are.
     #[cycle(instances)]
     fn core(
         &mut self,

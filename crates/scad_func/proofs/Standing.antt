@@ -192,7 +192,7 @@ module _ (fs : List SourceFunction) (ms : List SourceModule) where
 
     goods_instance : (f m : ℕ) (i : InstanceTerm) (rest : List Entity) → Both f m (entities_of_instance i)
         → Go (f + count_functions (entities_of_instance i)) (m + count_modules (entities_of_instance i)) rest → Go f m (entities_of_instance i ++ rest)
-    goods_instance f m (AnInstance at marks core) rest s go = goods_core f m core rest s go
+    goods_instance f m (AnInstance at modifiers core) rest s go = goods_core f m core rest s go
 
     goods_core : (f m : ℕ) (c : CoreTerm) (rest : List Entity) → Both f m (entities_of_core c)
         → Go (f + count_functions (entities_of_core c)) (m + count_modules (entities_of_core c)) rest → Go f m (entities_of_core c ++ rest)

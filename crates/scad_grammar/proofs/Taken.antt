@@ -145,7 +145,7 @@ abbrev mutual
   statements (and_statement s ss) = and_then (statement s) (statements ss)
 
   pub instance : InstanceTerm → Takes
-  instance (AnInstance at marks c) = and_then (each (λ m. one) marks) (core c)
+  instance (AnInstance at modifiers c) = and_then (each (λ m. one) modifiers) (core c)
 
   pub core : CoreTerm → Takes
   core (IfTerm at test b) = and_then one (and_then (in_pair (term test)) (deep (body b)))

@@ -194,7 +194,7 @@ unfoldable mutual
 -- an instance, at the place of its first modifier, if it has some
 abbrev pub instance_term : List ModifierTerm → CoreTerm → InstanceTerm
 instance_term [] core = AnInstance (place_of_core core) [] core
-instance_term (mark ∷ marks) core = AnInstance mark.at (mark ∷ marks) core
+instance_term (first ∷ modifiers) core = AnInstance first.at (first ∷ modifiers) core
 
 -- whether a body ends in an `if` without `else`: one that stands behind the body would then belong to that `if`
 abbrev mutual
@@ -205,7 +205,7 @@ abbrev mutual
 
   -- the same of an instance
   pub instance_open : InstanceTerm → Bool
-  instance_open (AnInstance at marks core) = core_open core
+  instance_open (AnInstance at modifiers core) = core_open core
 
   -- the same of an instance without its modifiers
   pub core_open : CoreTerm → Bool

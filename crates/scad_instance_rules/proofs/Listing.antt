@@ -28,7 +28,7 @@ core_of_neither (IntersectionForTerm at binders body) = refl
 core_of_neither (ModuleCallTerm at name args body) = refl
 
 child_of_neither : (i : InstanceTerm) → is_child_where false false i ≡ true
-child_of_neither (AnInstance at marks core) = core_of_neither core
+child_of_neither (AnInstance at modifiers core) = core_of_neither core
 
 -- where calls of one are left out, what is a child where both are is one
 fewer : (e a x y : Bool) → not ((true && x) || (true && y)) ≡ true → not ((e && x) || (a && y)) ≡ true
@@ -48,7 +48,7 @@ core_of_fewer e a (IntersectionForTerm at binders body) h = refl
 core_of_fewer e a (ModuleCallTerm at name args body) h = fewer e a (bytes_eq name (codes "echo")) (bytes_eq name (codes "assert")) h
 
 child_of_fewer : (e a : Bool) (i : InstanceTerm) → is_child_where true true i ≡ true → is_child_where e a i ≡ true
-child_of_fewer e a (AnInstance at marks core) h = core_of_fewer e a core h
+child_of_fewer e a (AnInstance at modifiers core) h = core_of_fewer e a core h
 
 -- what each item passes leaves out none
 all_pass : {A : Type 0} (q : A → Bool) → ((x : A) → q x ≡ true) → (xs : List A) → xs ≡ filter q xs
@@ -172,7 +172,7 @@ core_seen env (IntersectionForTerm at binders body) = refl
 core_seen env (ModuleCallTerm at name args body) = ap not (silent env name _ _ refl refl)
 
 child_seen : (env : Env) (i : InstanceTerm) → is_child_where (echo_hidden env) (assert_hidden env) i ≡ is_child env i
-child_seen env (AnInstance at marks core) = core_seen env core
+child_seen env (AnInstance at modifiers core) = core_seen env core
 
 pub children_seen : (env : Env) (e a : Bool) (table : BlockTable) (body : StatementTerms) (found : List NumberedInstance)
     → e ≡ echo_hidden env → a ≡ assert_hidden env

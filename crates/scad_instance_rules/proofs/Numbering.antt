@@ -130,23 +130,23 @@ module _ (table : BlockTable) where
 
     -- the same of an instance
     pub instance_is_there : (i : InstanceTerm) (n : ℕ) → StandAt table n (entities_of_instance i) → n < length table.entries
-    instance_is_there (AnInstance at marks core) n h = core_is_there core n h
+    instance_is_there (AnInstance at modifiers core) n h = core_is_there core n h
 
     pub instance_blocks : (i : InstanceTerm) (n other : ℕ) → StandAt table n (entities_of_instance i) → Ends n other
         → CoreHasBlocks table (core_of_instance i) n other
-    instance_blocks (AnInstance at marks core) n other h e = core_blocks core n other h e
+    instance_blocks (AnInstance at modifiers core) n other h e = core_blocks core n other h e
 
     pub instance_ends : (i : InstanceTerm) (n : ℕ) → StandAt table n (entities_of_instance i) → has_else (core_of_instance i) ≡ false
         → Ends n (n + count_blocks (entities_of_instance i))
-    instance_ends (AnInstance at marks core) n h not_so = core_ends core n h not_so
+    instance_ends (AnInstance at modifiers core) n h not_so = core_ends core n h not_so
 
     pub second_is_there : (i : InstanceTerm) (n other : ℕ) → StandAt table n (entities_of_instance i) → Ends n other
         → has_else (core_of_instance i) ≡ true → other < length table.entries
-    second_is_there (AnInstance at marks core) n other h e is_so = else_is_there core n other h e is_so
+    second_is_there (AnInstance at modifiers core) n other h e is_so = else_is_there core n other h e is_so
 
     pub second_ends : (i : InstanceTerm) (n other : ℕ) → StandAt table n (entities_of_instance i) → Ends n other
         → has_else (core_of_instance i) ≡ true → Ends other (n + count_blocks (entities_of_instance i))
-    second_ends (AnInstance at marks core) n other h e is_so = else_ends core n other h e is_so
+    second_ends (AnInstance at modifiers core) n other h e is_so = else_ends core n other h e is_so
 
 -- the core of an instance in memory
 pub core_there : (i : Instance) → core_of_instance (instance_of i) ≡ core_of i.core

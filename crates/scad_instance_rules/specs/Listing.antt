@@ -21,7 +21,7 @@ is_call_of_either echo assert core = false
 
 -- whether an instance is a child, where calls of `echo` are none, or those of `assert`
 abbrev pub is_child_where : Bool → Bool → InstanceTerm → Bool
-is_child_where echo assert (AnInstance at marks core) = not (is_call_of_either echo assert core)
+is_child_where echo assert (AnInstance at modifiers core) = not (is_call_of_either echo assert core)
 
 -- the same of an instance with the numbers of its blocks
 abbrev pub is_numbered_child : Bool → Bool → NumberedInstance → Bool

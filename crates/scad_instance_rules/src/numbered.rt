@@ -11,7 +11,7 @@ ghost use Rattle.scad_func.specs.View.{table_in};
 ghost use Rattle.scad_meaning.specs.Bodies.{instances_of, evaluated_instances, is_switched_on};
 ghost use Rattle.scad_instance_rules.specs.Positions.{term_of_numbered, HasBlocks, HaveBodyBlocks, AddsInstances, PassesOver, BlocksBegin, has_else};
 
-use crate::marks::is_on;
+use crate::modifiers::is_on;
 use scad_ast::{Core, Instance, Statement, Statements};
 use scad_func::Source;
 use scad_scope::BlockText;

@@ -60,7 +60,7 @@ switches_off Background = true
 switches_off Highlight = false
 switches_off Root = false
 
--- whether a modifier marks the root, as `!` does
+-- whether a modifier makes the root, as `!` does
 abbrev pub is_root : Modifier → Bool
 is_root Disable = false
 is_root Background = false
@@ -69,11 +69,11 @@ is_root Root = true
 
 -- an instance that is evaluated: one marked `*` or `%` counts as not written
 abbrev pub is_switched_on : InstanceTerm → Bool
-is_switched_on (AnInstance at marks core) = not (list_any (λ mark. switches_off mark.modifier) marks)
+is_switched_on (AnInstance at modifiers core) = not (list_any (λ placed. switches_off placed.modifier) modifiers)
 
 -- an instance marked `!`
 abbrev pub has_root_modifier : InstanceTerm → Bool
-has_root_modifier (AnInstance at marks core) = list_any (λ mark. is_root mark.modifier) marks
+has_root_modifier (AnInstance at modifiers core) = list_any (λ placed. is_root placed.modifier) modifiers
 
 -- the instances of a body that are evaluated
 abbrev pub evaluated_instances : StatementTerms → List InstanceTerm
@@ -87,7 +87,7 @@ has_no_geometry env core = false
 
 -- whether an instance is a child: any but a call of the built-in `echo` or `assert`
 abbrev pub is_child : Env → InstanceTerm → Bool
-is_child env (AnInstance at marks core) = not (has_no_geometry env core)
+is_child env (AnInstance at modifiers core) = not (has_no_geometry env core)
 
 -- the children of a call with this body, in the body's scope
 abbrev pub children_in : Env → StatementTerms → List InstanceTerm

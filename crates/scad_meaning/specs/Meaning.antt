@@ -137,7 +137,7 @@ each_assignment evaluations here (assignment ∷ rest) turns =
 
 -- an instance without its place and its modifiers
 abbrev pub core_of_instance : InstanceTerm → CoreTerm
-core_of_instance (AnInstance at marks core) = core
+core_of_instance (AnInstance at modifiers core) = core
 
 -- what instances give as members, in order; those that have no geometry are no members
 abbrev pub each_member : Evaluator → Context → List InstanceTerm → ℕ → ℕ → Outcome MemberDesigns
@@ -413,7 +413,7 @@ root_design evaluator here core turns leaves =
     if here.under_root then core_design evaluator here core turns leaves
     else then_with (core_design evaluator (inside_root here) core turns leaves) (λ turns result. Gives turns (as_root result))
 
--- an instance: of marks `!` in one another the outermost one counts
+-- an instance: of modifiers `!` in one another the outermost one counts
 abbrev pub instance_design : Evaluator → EvaluatesInstance
 instance_design evaluator here instance turns leaves =
     if has_root_modifier instance

@@ -14,21 +14,21 @@ use scad_lexer::{Symbol, Token};
 use std::alloc::Global;
 
 /// The modifiers that stand here, which may be none.
-pub(crate) fn marks<'a>(alloc: Global, tokens: &'a [Token]) -> Parsed<'a, PlacedModifiers>
+pub(crate) fn modifiers<'a>(alloc: Global, tokens: &'a [Token]) -> Parsed<'a, PlacedModifiers>
     ensures value { GivesRead (λ p. (modifiers_of p.0, p.1.now)) result
         (modifiers_read tokens.now) }
 {
     let mut items = Vec::new(alloc);
     let mut rest = tokens;
-    'marks: while let Some((token, after)) = TokenClass::Modifier.split_first(rest) {
-        items.push(mark(token))?;
+    'modifiers: while let Some((token, after)) = TokenClass::Modifier.split_first(rest) {
+        items.push(placed(token))?;
         rest = after;
     }
     Ok((PlacedModifiers { items }, rest))
 }
 
 // A modifier.
-fn mark(token: &Token) -> PlacedModifier
+fn placed(token: &Token) -> PlacedModifier
     ensures { modifier_of result ≡ modifier_term token.now }
 {
     PlacedModifier {
@@ -38,14 +38,14 @@ fn mark(token: &Token) -> PlacedModifier
 }
 
 /// An instance, by its modifiers and its core.
-pub(crate) fn instance_from(marks: PlacedModifiers, core: Core) -> Instance
-    ensures { instance_of result ≡ instance_term (modifiers_of marks) (core_of core) }
+pub(crate) fn instance_from(modifiers: PlacedModifiers, core: Core) -> Instance
+    ensures { instance_of result ≡ instance_term (modifiers_of modifiers) (core_of core) }
 {
-    let place = match marks.items.first() {
-        Some(mark) => mark.place,
+    let place = match modifiers.items.first() {
+        Some(first) => first.place,
         None => core.place(),
     };
-    Instance { place, marks, core }
+    Instance { place, modifiers, core }
 }
 
 /// The condition of an `if`: an expression in parentheses.

@@ -12,7 +12,7 @@ mod statement;
 
 pub(crate) use assignments::{assignment, special_assignment};
 pub(crate) use functions::function;
-pub(crate) use instances::{condition, instance_from, marks};
+pub(crate) use instances::{condition, instance_from, modifiers};
 pub(crate) use loop_variables::binders;
 pub(crate) use parameters::params;
 pub use program::{an_only_end_is_last, parse};

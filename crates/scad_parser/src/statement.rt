@@ -10,7 +10,7 @@ ghost use Rattle.scad_grammar.specs.StatementReads.{firsts_of_statement, param_i
 ghost use Rattle.scad_expressions.specs.Views.{GivesRead};
 
 use crate::{
-    assignment, binders, condition, function, instance_from, marks, params, special_assignment,
+    assignment, binders, condition, function, instance_from, modifiers, params, special_assignment,
 };
 use scad_ast::{Body, Core, Instance, Statement, Statements};
 use scad_expressions::{
@@ -132,9 +132,9 @@ fn instance<'a>(alloc: Global, tokens: &'a [Token], depth: u32) -> Parsed<'a, In
     ensures value { GivesRead (λ p. (instance_of p.0, p.1.now)) result
         (instance_in depth (body_read depth) tokens.now) }
 {
-    let (marks, rest) = marks(alloc, tokens)?;
-    let ((marks, core), rest) = with(marks, core(alloc, rest, depth))?;
-    Ok((instance_from(marks, core), rest))
+    let (modifiers, rest) = modifiers(alloc, tokens)?;
+    let ((modifiers, core), rest) = with(modifiers, core(alloc, rest, depth))?;
+    Ok((instance_from(modifiers, core), rest))
 }
 
 // An instance without its modifiers, over what is less deep than so much.

@@ -747,15 +747,15 @@ module _ (largest : ℕ) where
           (core_design evaluator (inside_root here) core turns leaves) (λ result. as_root result) (λ result. (refl, omega arith))
           (core_cost calls (inside_root here) core turns leaves s small k l))
 
-      instance_cost : (calls : ℕ) (here : Context) (at : Place) (marks : List ModifierTerm) (core : CoreTerm) (turns leaves : ℕ)
+      instance_cost : (calls : ℕ) (here : Context) (at : Place) (modifiers : List ModifierTerm) (core : CoreTerm) (turns leaves : ℕ)
           → Stands calls here → size_of_core core ≤ largest
           → turns ≤ most_turns → leaves ≤ most_leaves
           → Runs largest design_leaves nothing calls turns leaves (size_of_core core)
-          (cost_of_instance counting evaluator here (AnInstance at marks core) turns leaves)
-          (instance_design evaluator here (AnInstance at marks core) turns leaves)
-      instance_cost calls here at marks core turns leaves s small k l =
+          (cost_of_instance counting evaluator here (AnInstance at modifiers core) turns leaves)
+          (instance_design evaluator here (AnInstance at modifiers core) turns leaves)
+      instance_cost calls here at modifiers core turns leaves s small k l =
           run_test largest design_leaves nothing calls turns leaves (size_of_core core)
-          (has_root_modifier (AnInstance at marks core))
+          (has_root_modifier (AnInstance at modifiers core))
           (if is_some here.inside then no_cost else cost_of_root counting evaluator here core turns leaves)
           (cost_of_core counting evaluator here core turns leaves)
           (if is_some here.inside then Faults WrongDimension
@@ -768,9 +768,9 @@ module _ (largest : ℕ) where
 
     instances_cost : (evaluations : ℕ) → IsGood (cost_of_design_within unit judge evaluations) (design_within unit judge evaluations)
     unfolding cost_of_design_within design_within
-    instances_cost zero calls here (AnInstance at marks core) turns leaves s small k l =
+    instances_cost zero calls here (AnInstance at modifiers core) turns leaves s small k l =
         (omega arith, λ all m. let more = paid_up_to largest calls (turns + leaves) all (omega arith) in omega arith)
-    instances_cost (suc evaluations) calls here (AnInstance at marks core) turns leaves s small k l =
+    instances_cost (suc evaluations) calls here (AnInstance at modifiers core) turns leaves s small k l =
         let made : Evaluator = record {
           unit = unit;
           judge = judge;
@@ -779,11 +779,11 @@ module _ (largest : ℕ) where
               judge evaluations;
         } in
         run_one_more largest design_leaves nothing calls turns leaves (size_of_core core)
-        (cost_of_instance (cost_of_design_within unit judge evaluations) made here (AnInstance at marks core) turns leaves)
-        (instance_design made here (AnInstance at marks core) turns leaves)
+        (cost_of_instance (cost_of_design_within unit judge evaluations) made here (AnInstance at modifiers core) turns leaves)
+        (instance_design made here (AnInstance at modifiers core) turns leaves)
         (instance_cost evaluations (cost_of_design_within unit judge evaluations) (design_within unit judge evaluations)
         (instances_cost evaluations)
-        calls here at marks core turns leaves s (omega arith) k l)
+        calls here at modifiers core turns leaves s (omega arith) k l)
 
     -- the instances of a program
     pub program_cost : (bindings : Pairs Val) (statements : StatementTerms) → size_of_statements statements ≤ largest

@@ -81,7 +81,7 @@ abbrev mutual
 
   -- in an instance, itself one
   pub size_of_instance : InstanceTerm → ℕ
-  size_of_instance (AnInstance at marks core) = suc (size_of_core core)
+  size_of_instance (AnInstance at modifiers core) = suc (size_of_core core)
 
   -- in an instance without its modifiers
   pub size_of_core : CoreTerm → ℕ

@@ -110,7 +110,7 @@ mutual
   table_of (and_statement s rest) = joined_text (entities_of s) (entities_in rest) (text_of s) (table_of rest)
 
   text_of_instance : (i : InstanceTerm) → IsText (entities_of_instance i)
-  text_of_instance (AnInstance at marks core) = text_of_core core
+  text_of_instance (AnInstance at modifiers core) = text_of_core core
 
   text_of_core : (c : CoreTerm) → IsText (entities_of_core c)
   text_of_core (IfTerm at test body) = text_of_body body

@@ -416,15 +416,15 @@ module _ (P : Place → Type 0) (Q : Mesh → Type 0) where
         core_place_held (ModuleCallTerm at name args body) h = h.0
 
         instance_keeps : IsGood (instance_design evaluator)
-        instance_keeps here (AnInstance at marks core) turns leaves s h =
-            let inner = rest_held P (flat_map places_of_modifier marks) (places_of_core core) h.1 in
-            if_keeps (Keeps P DesignsHeld) (has_root_modifier (AnInstance at marks core)) _ (core_design evaluator here core turns leaves)
+        instance_keeps here (AnInstance at modifiers core) turns leaves s h =
+            let inner = rest_held P (flat_map places_of_modifier modifiers) (places_of_core core) h.1 in
+            if_keeps (Keeps P DesignsHeld) (has_root_modifier (AnInstance at modifiers core)) _ (core_design evaluator here core turns leaves)
             (if_keeps (Keeps P DesignsHeld) (is_some here.inside) (Faults WrongDimension (place_of_core core)) (root_design evaluator here core turns leaves)
             (core_place_held core inner) (marked_keeps here core turns leaves s inner)) (core_keeps here core turns leaves s inner)
 
       within_keeps : (evaluations : ℕ) → IsGood (design_within unit judge evaluations)
       unfolding design_within
-      within_keeps zero here (AnInstance at marks core) turns leaves s h = h.0
+      within_keeps zero here (AnInstance at modifiers core) turns leaves s h = h.0
       within_keeps (suc evaluations) here i turns leaves s h = instance_keeps evaluations (design_within unit judge evaluations) (within_keeps evaluations) here i turns leaves s h
 
       -- the design of a program

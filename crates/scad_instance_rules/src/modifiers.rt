@@ -1,4 +1,4 @@
-//! How instances are marked.
+//! The modifiers of instances.
 
 ghost use Rattle.std.specs.Prelude.{◌≡◌};
 ghost use Rattle.std.specs.List.{list_any};
@@ -11,32 +11,32 @@ use scad_ast::{Instance, Modifier, PlacedModifiers};
 pub(crate) fn is_on(instance: &Instance) -> bool
     ensures { result ≡ is_switched_on (instance_of instance.now) }
 {
-    !any_off(&instance.marks)
+    !any_off(&instance.modifiers)
 }
 
 /// Whether an instance is marked `!`.
 pub fn has_root_modifier(instance: &Instance) -> bool
     ensures { result ≡ has_root_modifier (instance_of instance.now) }
 {
-    any_root(&instance.marks)
+    any_root(&instance.modifiers)
 }
 
-fn any_off(marks: &PlacedModifiers) -> bool
-    ensures { result ≡ list_any (λ m. switches_off m.modifier) (modifiers_of marks.now) }
+fn any_off(modifiers: &PlacedModifiers) -> bool
+    ensures { result ≡ list_any (λ m. switches_off m.modifier) (modifiers_of modifiers.now) }
 {
-    for mark in &marks.items {
-        if switches_off(mark.modifier) {
+    for placed in &modifiers.items {
+        if switches_off(placed.modifier) {
             return true;
         }
     }
     false
 }
 
-fn any_root(marks: &PlacedModifiers) -> bool
-    ensures { result ≡ list_any (λ m. is_root m.modifier) (modifiers_of marks.now) }
+fn any_root(modifiers: &PlacedModifiers) -> bool
+    ensures { result ≡ list_any (λ m. is_root m.modifier) (modifiers_of modifiers.now) }
 {
-    for mark in &marks.items {
-        if is_root(mark.modifier) {
+    for placed in &modifiers.items {
+        if is_root(placed.modifier) {
             return true;
         }
     }

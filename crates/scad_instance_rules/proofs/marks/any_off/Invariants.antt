@@ -1,9 +1,0 @@
-use Rattle.std.proofs.Common.{◌≡◌, map, drop}
-use Rattle.std.specs.List.{list_any}
-use Rattle.scad_ast.specs.StatementView.{modifier_of}
-use Rattle.scad_meaning.specs.Bodies.{switches_off}
-use Rattle.scad_instance_rules.proofs.marks.any_off.Given as goal
-
-abbrev pub invariant-loop-mark : goal.invariant-loop-mark
-invariant-loop-mark l = list_any (λ m. switches_off m.modifier) (map modifier_of l.marks.items.items)
-    ≡ list_any (λ m. switches_off m.modifier) (map modifier_of (drop l.mark-index l.marks.items.items))
