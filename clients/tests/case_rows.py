@@ -141,7 +141,7 @@ def statement_form(it: ast.StatementTerm) -> str:
         dollar = "$" if isinstance(it, ast.SpecialAssignmentTerm) else ""
         return f"set {dollar}{it.name.decode()}{at(it.at)} {term_form(it.value)}"
     if isinstance(it, ast.InstanceTerm):
-        marks = "".join(f"{mark.modifier}{at(mark.at)} " for mark in it.marks)
+        marks = "".join(f"{mark.modifier}{at(mark.at)} " for mark in it.modifiers)
         return f"<{at(it.at)} {marks}{core_form(it.core)}>"
     word, last = ("module", body_form) if isinstance(it, ast.ModuleTerm) else ("function", term_form)
     what = last(it.body if isinstance(it, ast.ModuleTerm) else it.value)
