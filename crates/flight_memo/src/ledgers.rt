@@ -19,6 +19,14 @@ pub trait FlightBooks: Books {
     type Held: Ledger;
 }
 
+/// Books whose ledgers threads may share.
+pub trait ThreadBooks: Books<
+    Hits: Send + Sync,
+    Misses: Send + Sync,
+    Kept: Send + Sync,
+    Heavy: Send + Sync,
+> + FlightBooks<Begun: Send + Sync, Held: Send + Sync> + Send + Sync {}
+
 /// The books of these six ledgers, the last two of claims. Only who opens a memo knows the ledgers one by one.
 pub struct FlightLedgers<H, M, K, E, Begins, Holds> {
     of: PhantomData<(H, M, K, E, Begins, Holds)>,
@@ -41,6 +49,15 @@ impl<H: MemoLedger, M: Ledger, K: Ledger, E: Ledger, Begins: Ledger, Holds: Ledg
 
     type Held = Holds;
 }
+
+impl<
+    H: MemoLedger + Send + Sync,
+    M: Ledger + Send + Sync,
+    K: Ledger + Send + Sync,
+    E: Ledger + Send + Sync,
+    Begins: Ledger + Send + Sync,
+    Holds: Ledger + Send + Sync,
+> ThreadBooks for FlightLedgers<H, M, K, E, Begins, Holds> {}
 
 impl<
     Key,

@@ -15,4 +15,4 @@ pub use claim::Claim;
 pub use claims::{Claims, LogItem};
 pub use flight::{Claimed, Flight};
 pub use flight_share::FlightShare;
-pub use ledgers::{FlightBlanks, FlightBooks, FlightLedgers};
+pub use ledgers::{FlightBlanks, FlightBooks, FlightLedgers, ThreadBooks};

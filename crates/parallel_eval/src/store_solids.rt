@@ -18,15 +18,14 @@ use crate::{Builds, Gate, KnownStore};
 use bsp_boolean::{Builder, TreeStop as EvalStop, one_tree_more};
 use bsp_tree::Solid;
 use csg_tree::TreeKey;
-use flight_memo::{FlightBooks, FlightLedgers, FlightShare};
+use flight_memo::{FlightBooks, FlightShare, ThreadBooks};
 use memo_core::Namer;
 use parallel_zip::work_each;
 use plain_text::NoMemory;
 use std::alloc::Global;
-use std::sync::ledger::Ledger;
 use std::sync::{Arc, Wait};
 use std::thread::Threads;
-use subtree_memo::{AskPolicy, MemoLedger};
+use subtree_memo::AskPolicy;
 
 // Divides the nodes behind the first `before` ones, up to the number `last`, evenly among at most the given
 // number of lanes. Each lane has a node at least. Where memory runs out, the share is as it was.
@@ -105,24 +104,19 @@ fn take_back<B: FlightBooks>(share: &mut FlightShare<B>, mut lanes: Vec<Lane<B>>
 // Divides a run, and does it. Where memory runs out before, nothing is done.
 fn work_lanes<
     N: Namer<TreeKey> + Send + Sync,
-    H: MemoLedger + AskPolicy<TreeKey> + Send + Sync,
-    M: Ledger + Send + Sync,
-    K: Ledger + Send + Sync,
-    E: Ledger + Send + Sync,
-    S: Ledger + Send + Sync,
-    T: Ledger + Send + Sync,
+    B: ThreadBooks + AskPolicy<TreeKey>,
     D: Builder + Send,
     G: Gate + Sync,
     R: Threads + Wait + Sync,
 >(
-    work: &RunWork<'_, '_, N, FlightLedgers<H, M, K, E, S, T>, G, R>,
-    share: &mut FlightShare<FlightLedgers<H, M, K, E, S, T>>,
+    work: &RunWork<'_, '_, N, B, G, R>,
+    share: &mut FlightShare<B>,
     builders: &mut [D],
-) -> Result<Vec<Lane<FlightLedgers<H, M, K, E, S, T>>>, NoMemory>
+) -> Result<Vec<Lane<B>>, NoMemory>
     requires run { IsRunWork work.now.store.now work.now.start work.now.solids.now
         work.now.nodes.now }
     requires ready { AreReady D.builds (joins_to work.now.store.now work.now.start) share.old.share
-        builders.old × MayAskJoins (H.may_ask share.old.share.caller) work.now.store.now }
+        builders.old × MayAskJoins (B.may_ask share.old.share.caller) work.now.store.now }
     ensures lanes { IfOk result (λ v. AreLanes work.now.store.now work.now.start
         (work.now.start + length work.now.nodes.now) v.items) }
     ensures caller { IfOk result (λ v. AreOfCaller share.new.share.caller v.items) }
@@ -150,26 +144,21 @@ fn work_lanes<
 // are put back whatever that was. Answers the number of its last node.
 fn run<
     N: Namer<TreeKey> + Send + Sync,
-    H: MemoLedger + AskPolicy<TreeKey> + Send + Sync,
-    M: Ledger + Send + Sync,
-    K: Ledger + Send + Sync,
-    E: Ledger + Send + Sync,
-    S: Ledger + Send + Sync,
-    T: Ledger + Send + Sync,
+    B: ThreadBooks + AskPolicy<TreeKey>,
     D: Builder + Send,
     G: Gate + Sync,
     R: Threads + Wait + Sync,
 >(
-    builds: &Builds<'_, N, FlightLedgers<H, M, K, E, S, T>, G, R>,
+    builds: &Builds<'_, N, B, G, R>,
     store: &KnownStore,
     before: u32,
     growth: &mut Growth<'_>,
-    share: &mut FlightShare<FlightLedgers<H, M, K, E, S, T>>,
+    share: &mut FlightShare<B>,
     builders: &mut [D],
 ) -> Result<u32, EvalStop>
     requires growing { IsGrowing store.now before growth.old × (before < length store.now) }
     requires ready { AreReady D.builds (joins_to store.now before) share.old.share builders.old
-        × MayAskJoins (H.may_ask share.old.share.caller) store.now }
+        × MayAskJoins (B.may_ask share.old.share.caller) store.now }
     ensures growing { IfOk result (λ last. IsGrowing store.now last growth.new × (before < last)) }
     ensures ready { IfOk result (λ last. AreReady D.builds (joins_to store.now last) share.new.share
         builders.new) }
@@ -207,24 +196,19 @@ fn run<
 // The solids of all nodes of a store, in order of number.
 fn solids_of<
     N: Namer<TreeKey> + Send + Sync,
-    H: MemoLedger + AskPolicy<TreeKey> + Send + Sync,
-    M: Ledger + Send + Sync,
-    K: Ledger + Send + Sync,
-    E: Ledger + Send + Sync,
-    S: Ledger + Send + Sync,
-    T: Ledger + Send + Sync,
+    B: ThreadBooks + AskPolicy<TreeKey>,
     D: Builder + Send,
     G: Gate + Sync,
     R: Threads + Wait + Sync,
 >(
-    builds: &Builds<'_, N, FlightLedgers<H, M, K, E, S, T>, G, R>,
+    builds: &Builds<'_, N, B, G, R>,
     store: &KnownStore,
-    share: &mut FlightShare<FlightLedgers<H, M, K, E, S, T>>,
+    share: &mut FlightShare<B>,
     builders: &mut [D],
 ) -> Result<Vec<Arc<Solid>>, EvalStop>
     requires some { 0 < length store.now }
     requires ready { AreReady D.builds 0 share.old.share builders.old
-        × MayAskJoins (H.may_ask share.old.share.caller) store.now }
+        × MayAskJoins (B.may_ask share.old.share.caller) store.now }
     ensures solids { IfOk result (λ v. shared_solids v.items ≡ map solids.solid_of store.now) }
     ensures within { OnOk result (AreWithinSizeLimits store.now) }
     ensures stop { IfErr result (IsTreeStop store.now) }
@@ -256,24 +240,19 @@ fn solids_of<
 /// passes a limit.
 pub fn solid_of<
     N: Namer<TreeKey> + Send + Sync,
-    H: MemoLedger + AskPolicy<TreeKey> + Send + Sync,
-    M: Ledger + Send + Sync,
-    K: Ledger + Send + Sync,
-    E: Ledger + Send + Sync,
-    S: Ledger + Send + Sync,
-    T: Ledger + Send + Sync,
+    B: ThreadBooks + AskPolicy<TreeKey>,
     D: Builder + Send,
     G: Gate + Sync,
     R: Threads + Wait + Sync,
 >(
-    builds: &Builds<'_, N, FlightLedgers<H, M, K, E, S, T>, G, R>,
+    builds: &Builds<'_, N, B, G, R>,
     store: &mut KnownStore,
-    share: &mut FlightShare<FlightLedgers<H, M, K, E, S, T>>,
+    share: &mut FlightShare<B>,
     builders: &mut [D],
 ) -> Result<Arc<Solid>, EvalStop>
     requires some { 0 < length store.old }
     requires ready { AreReady D.builds 0 share.old.share builders.old
-        × MayAskJoins (H.may_ask share.old.share.caller) store.old }
+        × MayAskJoins (B.may_ask share.old.share.caller) store.old }
     ensures solid { IfOk result (λ s. tree_of (arc_value s) ≡
         solids.solid_of (tree_numbered store.old (length store.old))) }
     ensures within { OnOk result (AreWithinSizeLimits store.old) }

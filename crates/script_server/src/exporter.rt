@@ -24,7 +24,7 @@ use crate::under_way::{UnderWay, Workers};
 use bsp_boolean::PlainBuilder;
 use bsp_tree::Solid;
 use csg_tree::{CsgStore, CsgTree, TreeKey};
-use flight_memo::{FlightBooks, FlightLedgers, FlightShare};
+use flight_memo::{FlightBooks, FlightShare, ThreadBooks};
 use memo_core::Namer;
 use parallel_eval::{Builds, EvalStop, Gate, KnownStore, solid_of};
 use plane_predicate::Unit;
@@ -32,10 +32,9 @@ use reply_text::{Exporting, Reply};
 use script_run::Exporter;
 use std::alloc::Global;
 use std::marker::Model;
-use std::sync::ledger::Ledger;
 use std::sync::{Arc, Wait};
 use std::thread::Threads;
-use subtree_memo::{AskPolicy, MemoLedger};
+use subtree_memo::AskPolicy;
 use text_place::{NoMemory, Stop};
 use tree_export::{TreeExport, export_made, last_nodes_are_trees, nodes_of_tree, solid_of_nothing};
 
@@ -152,23 +151,18 @@ fn key_of(store: &KnownStore) -> Result<TreeKey, NoMemory>
 fn solid_for<
     'a,
     N: Namer<TreeKey> + Send + Sync,
-    H: MemoLedger + AskPolicy<TreeKey> + Send + Sync,
-    M: Ledger + Send + Sync,
-    K: Ledger + Send + Sync,
-    E: Ledger + Send + Sync,
-    S: Ledger + Send + Sync,
-    T: Ledger + Send + Sync,
+    B: ThreadBooks + AskPolicy<TreeKey>,
     G: Gate + Sync,
     R: Threads + Wait + Sync,
 >(
-    builds: &Builds<'a, N, FlightLedgers<H, M, K, E, S, T>, G, R>,
-    client: &mut Client<FlightLedgers<H, M, K, E, S, T>>,
+    builds: &Builds<'a, N, B, G, R>,
+    client: &mut Client<B>,
     workers: Workers,
     mut store: KnownStore,
 ) -> Result<Arc<Solid>, EvalStop>
     requires some { 0 < length store }
     requires few { client.old.asked < 8192 }
-    requires allowed { MayAskJoins (H.may_ask client.old.share.caller) store }
+    requires allowed { MayAskJoins (B.may_ask client.old.share.caller) store }
     ensures solid { IfOk result (λ s.
         shapes.tree_of (arc_value s) ≡ solids.solid_of (tree_numbered store (length store))) }
     ensures within { OnOk result (AreWithinSizeLimits store) }
@@ -188,24 +182,19 @@ fn solid_for<
 fn exported<
     'a,
     N: Namer<TreeKey> + Send + Sync,
-    H: MemoLedger + AskPolicy<TreeKey> + Send + Sync,
-    M: Ledger + Send + Sync,
-    K: Ledger + Send + Sync,
-    E: Ledger + Send + Sync,
-    S: Ledger + Send + Sync,
-    T: Ledger + Send + Sync,
+    B: ThreadBooks + AskPolicy<TreeKey>,
     G: Gate + Sync,
     R: Threads + Wait + Sync,
 >(
-    builds: &Builds<'a, N, FlightLedgers<H, M, K, E, S, T>, G, R>,
-    client: &mut Client<FlightLedgers<H, M, K, E, S, T>>,
+    builds: &Builds<'a, N, B, G, R>,
+    client: &mut Client<B>,
     workers: Workers,
     unit: Unit,
     tree: &CsgTree,
 ) -> Result<TreeExport, NoMemory>
     requires proper { IsProper (plain_tree_of tree.now) }
     requires few { client.old.asked < 8192 }
-    requires allowed { MayAskJoins (H.may_ask client.old.share.caller)
+    requires allowed { MayAskJoins (B.may_ask client.old.share.caller)
         (nodes_of (plain_tree_of tree.now)) }
     ensures exported { IfOk result (IsExported unit (plain_tree_of tree.now)) }
     ensures boundary { IfOk result (IsBoundaryText unit (plain_tree_of tree.now)) }
@@ -246,24 +235,19 @@ fn refused(stop: Stop) -> Result<Reply, NoMemory>
 fn answer<
     'a,
     N: Namer<TreeKey> + Send + Sync,
-    H: MemoLedger + AskPolicy<TreeKey> + Send + Sync,
-    M: Ledger + Send + Sync,
-    K: Ledger + Send + Sync,
-    E: Ledger + Send + Sync,
-    S: Ledger + Send + Sync,
-    T: Ledger + Send + Sync,
+    B: ThreadBooks + AskPolicy<TreeKey>,
     G: Gate + Sync,
     R: Threads + Wait + Sync,
 >(
-    builds: &Builds<'a, N, FlightLedgers<H, M, K, E, S, T>, G, R>,
-    client: &mut Client<FlightLedgers<H, M, K, E, S, T>>,
+    builds: &Builds<'a, N, B, G, R>,
+    client: &mut Client<B>,
     workers: Workers,
     unit: Unit,
     source: &[u8],
 ) -> Result<Reply, NoMemory>
     requires short { length source.now ≤ 4198400 }
     requires few { client.old.asked < 8192 }
-    requires allowed { MayAskFor unit (H.may_ask client.old.share.caller) source.now }
+    requires allowed { MayAskFor unit (B.may_ask client.old.share.caller) source.now }
     ensures { ExportsFor unit source.now result client.old client.new }
 {
     // Called for its law; does nothing when it runs: the text that bounds the tree of a source is watertight.
@@ -278,24 +262,19 @@ fn answer<
 pub fn export_source<
     'a,
     N: Namer<TreeKey> + Send + Sync,
-    H: MemoLedger + AskPolicy<TreeKey> + Send + Sync,
-    M: Ledger + Send + Sync,
-    K: Ledger + Send + Sync,
-    E: Ledger + Send + Sync,
-    S: Ledger + Send + Sync,
-    T: Ledger + Send + Sync,
+    B: ThreadBooks + AskPolicy<TreeKey>,
     G: Gate + Sync,
     R: Threads + Wait + Sync,
 >(
-    builds: &Builds<'a, N, FlightLedgers<H, M, K, E, S, T>, G, R>,
+    builds: &Builds<'a, N, B, G, R>,
     under_way: &UnderWay,
-    client: &mut Client<FlightLedgers<H, M, K, E, S, T>>,
+    client: &mut Client<B>,
     unit: Unit,
     source: &[u8],
 ) -> Result<Reply, NoMemory>
     requires short { length source.now ≤ 4198400 }
     requires few { client.old.asked < 8192 }
-    requires allowed { MayAskFor unit (H.may_ask client.old.share.caller) source.now }
+    requires allowed { MayAskFor unit (B.may_ask client.old.share.caller) source.now }
     ensures { ExportsFor unit source.now result client.old client.new }
 {
     let workers = under_way.begin(client.workers);

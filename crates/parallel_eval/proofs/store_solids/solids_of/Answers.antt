@@ -8,7 +8,7 @@ use Rattle.parallel_eval.proofs.store_solids.solids_of.Goals as goal
 pub run-requires-clause-ready : goal.run-requires-clause-ready
 run-requires-clause-ready g c κs within = (
   c.loop-done.invariant.ready,
-  subst (λ k. MayAskJoins (g.H.AskPolicy.may_ask k) c.args.store.now) (sym c.loop-done.invariant.asked.caller) c.requires.ready.1,
+  subst (λ k. MayAskJoins (g.B.AskPolicy.may_ask k) c.args.store.now) (sym c.loop-done.invariant.asked.caller) c.requires.ready.1,
 )
 
 pub returns-in_err-done-clause-few : goal.returns-in_err-done-clause-few

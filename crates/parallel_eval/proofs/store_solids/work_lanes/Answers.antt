@@ -27,7 +27,7 @@ work_each-requires-after_bounds g c κs within =
     let few = c.requires.run.few in
     let front = c.split_at_mut-busy.ensures.front_len in
     let whole = ap length same in
-    each_ready builds (IsRunWork trees start work.solids.now work.nodes.now) c.requires.run (λ k. MayAskJoins (g.H.AskPolicy.may_ask k) trees) start (length work.nodes.now) start last share.caller most busy ls
+    each_ready builds (IsRunWork trees start work.solids.now work.nodes.now) c.requires.run (λ k. MayAskJoins (g.B.AskPolicy.may_ask k) trees) start (length work.nodes.now) start last share.caller most busy ls
     (subst (AreFreshLanes share.caller start last) (sym same) c.in_ok-lanes.ensures.lanes) (omega arith) (omega arith) counts (omega (arith, some, few))
     (omega (arith, front, whole, c.in_ok-lanes.lanes.ok.0)) c.requires.ready.1
 
