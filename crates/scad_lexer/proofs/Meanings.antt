@@ -1,7 +1,8 @@
 -- What words stand for.
 use Rattle.std.proofs.Common.{◌≡◌, ℕ, zero, suc, ◌+◌, ◌-◌, ◌*◌, ◌<◌, ◌≤◌, List, [], ◌∷◌, ◌++◌, length, take, drop, get_or, Bool, true, false, cond, ◌&&◌, Some, None, Result, Ok, Err, refl, sym, ap, ◌∙◌, arith, nat_eq, append_assoc, append-nil}
 use Rattle.scad_lexer.specs.declared.class.ByteClass.TheVariants.{Byte, Printable}
-use Rattle.scad_lexer.specs.Words.{is_of_class, begins_with, all_bytes}
+use Rattle.scad_lexer.specs.Words.{all_bytes}
+use Rattle.scad_lexer.specs.Scanning.{is_of_class, begins_with}
 use Rattle.scad_lexer.specs.Tokens.{decimal_from, zero_fraction, with_byte, escape_of, escape_at, with_escape, bytes_written, bytes_after_backslash}
 use Rattle.scad_lexer.proofs.Longest.{drop_more}
 use Rattle.scad_lexer.proofs.Scanned.{rest_all}
