@@ -1,5 +1,5 @@
 -- A source has at most one token more than bytes: its end.
-use Rattle.std.proofs.Common.{◌≡◌, ℕ, zero, suc, ◌+◌, ◌≤◌, List, [], ◌∷◌, length, take, drop, Some, None, Option, Result, Ok, Err, ◌⊎◌, inl, inr, sym, subst, arith, IfOk, length-drop, ◌∙◌}
+use Rattle.std.proofs.Common.{◌≡◌, ℕ, zero, suc, ◌+◌, ◌≤◌, List, [], ◌∷◌, length, take, drop, Some, Result, Ok, Err, ◌⊎◌, inl, inr, sym, subst, arith, IfOk, length-drop, ◌∙◌}
 use Rattle.std.specs.Global.{Vec}
 use Rattle.plain_text.specs.declared.place.Place.{Place}
 use Rattle.text_place.specs.declared.fault.Stop.{Stop}

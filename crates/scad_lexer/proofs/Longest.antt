@@ -2,8 +2,8 @@
 use Rattle.std.proofs.Common.{◌≡◌, ℕ, zero, suc, ◌+◌, ◌<◌, ◌≤◌, List, [], ◌∷◌, length, take, drop, get_or, Bool, true, false, cond, Option, Some, None, refl, sym, ap, ◌∙◌, subst, arith, drop-cons, add-one}
 use Rattle.scad_lexer.specs.declared.word.Word.{Word}
 use Rattle.scad_lexer.proofs.Matched.{is_read}
-use Rattle.scad_lexer.specs.Words.{run_of, all_bytes, word_of_bytes, IsLongest, HasNoWord}
-use Rattle.scad_lexer.specs.Scanning.{word_where, where_last, with_bytes, more_bytes, one_longer, longest_front, word_from}
+use Rattle.scad_lexer.specs.Words.{run_of, word_of_bytes, IsLongest, HasNoWord}
+use Rattle.scad_lexer.specs.Scanning.{all_bytes, word_where, where_last, with_bytes, more_bytes, one_longer, longest_front, word_from}
 
 -- what the longest word is
 pub record IsBest (f : List ℕ → Option Word) (t : List ℕ) (w : Word) (n : ℕ) : Type 0 where

@@ -1,14 +1,21 @@
 -- The regular expressions of words match what the words are byte by byte.
-use Rattle.std.proofs.Common.{◌≡◌, ℕ, zero, suc, ◌≤◌, List, [], ◌∷◌, length, Bool, true, false, cond, not, ◌&&◌, ◌||◌, Option, Some, None, codes, refl, sym, ap, ◌∙◌, subst, arith, nat_eq, inl, inr}
-use Rattle.std.proofs.lemmas.Bool.Decides.{eqb_tells, nat_tests}
+use Rattle.std.proofs.Common.{◌≡◌, ℕ, zero, suc, ◌≤◌, List, [], ◌∷◌, length, Bool, true, false, cond, not, ◌&&◌, ◌||◌, Option, Some, None, codes, map, refl, sym, ap, ◌∙◌, subst, arith, nat_eq}
+use Rattle.std.proofs.lemmas.Bool.Decides.{nat_tests}
 use Rattle.std.proofs.lemmas.Bool.{eqb-true}
 use Rattle.std.specs.Str.{bytes_eq}
 use Rattle.scad_lexer.specs.declared.token.Symbol.{Symbol}
 use Rattle.scad_lexer.specs.declared.token.Symbol.TheVariants.{OpenParenthesis, CloseParenthesis, OpenBracket, CloseBracket, OpenBrace, CloseBrace, Comma, Semicolon, Assign, Colon, Question, Plus, Minus, Times, Remainder, Less, Greater, Not, Hash, Caret, Dot, Divide, LessEqual, GreaterEqual, Equal, NotEqual, And, Or}
 use Rattle.scad_lexer.specs.declared.word.Word.{Word}
 use Rattle.scad_lexer.specs.declared.word.Word.TheVariants.{Blank, UnclosedComment, Name, Special, Numeral, NumeralAndLetter, Text, UnclosedText, Symbol as SymbolWord}
-use Rattle.scad_lexer.specs.Words.{is_blank_byte, is_letter_byte, is_digit_byte, is_name_byte, all_bytes, Expression, Empty, One, Then, Either, Many, Unless, one_then, many_then, matches, is_empty, literal, in_line, open_comment, blank, name, digits, exponent, numeral, open_text, symbols, symbol_in, is_match, word_of_bytes}
-use Rattle.scad_lexer.specs.Scanning.{word_where, where_last, in_exponent, after_sign, after_e, number_end, in_fraction, in_whole, after_point, in_text, in_escape, in_comment, after_star, after_slash, after_dollar, one_byte_symbol, two_byte_symbol, symbol_word, symbol_of, word_from, word_read}
+use Rattle.scad_lexer.specs.Words.{is_blank_byte, is_letter_byte, is_digit_byte, is_name_byte, Expression, Empty, One, Then, Either, Many, Unless, one_then, many_then, matches, is_empty, literal, in_line, open_comment, name_word, some_digits, exponent_part, numeral_word, open_text, symbols, first_match, word_of_bytes}
+use Rattle.scad_lexer.specs.Scanning.{all_bytes, word_where, where_last, in_exponent, after_sign, after_e, number_end, in_fraction, in_whole, after_point, in_text, in_escape, in_comment, after_star, after_slash, after_dollar, one_byte_symbol, two_byte_symbol, symbol_word, symbol_of, word_from, word_read}
+
+-- a blank
+abbrev blank : Expression
+blank = Either (One is_blank_byte) (Either (Then (literal (codes "//")) (Many in_line)) (Then open_comment (literal (codes "*/"))))
+
+abbrev is_match : Expression → List ℕ → Bool
+is_match expression bytes = matches expression is_empty bytes
 
 or_false : (a : Bool) → (a || false) ≡ a
 or_false true = refl
@@ -52,7 +59,7 @@ greedy_all : (p : ℕ → Bool) (t : List ℕ) → greedy p is_empty t ≡ all_b
 greedy_all p [] = refl
 greedy_all p (b ∷ t) = ap (λ x. cond (p b) x false) (greedy_all p t)
 
-all_of : (p : ℕ → Bool) (t : List ℕ) → matches (Many (One p)) is_empty t ≡ all_bytes p t
+pub all_of : (p : ℕ → Bool) (t : List ℕ) → matches (Many (One p)) is_empty t ≡ all_bytes p t
 all_of p t = many_bytes p is_empty (λ b u e. refl) t ∙ greedy_all p t
 
 -- ---- a byte of a class is none outside it
@@ -187,19 +194,19 @@ whole_words (b ∷ t) = go (is_digit_byte b) (nat_eq b 46) refl (whole_words t)
         end_words (b ∷ t) ∙ sym (ap (λ x. numbers x (end_then lettered (b ∷ t) || false)) (or_false (end_then is_empty (b ∷ t))) ∙ ap (numbers (end_then is_empty (b ∷ t))) (or_false (end_then lettered (b ∷ t))))
 
 -- ---- the expression of a numeral, so read
-digits_read : (k : List ℕ → Bool) → StopsAt is_digit_byte k → (t : List ℕ) → matches digits k t ≡ more_digits k t
+digits_read : (k : List ℕ → Bool) → StopsAt is_digit_byte k → (t : List ℕ) → matches some_digits k t ≡ more_digits k t
 unfolding matches
 digits_read k h t = one_same is_digit_byte (matches (Many (One is_digit_byte)) k) (greedy is_digit_byte k) (many_bytes is_digit_byte k h) t
 
-end_read : (k : List ℕ → Bool) → StopsAt is_digit_byte k → (t : List ℕ) → matches (Either Empty exponent) k t ≡ end_then k t
+end_read : (k : List ℕ → Bool) → StopsAt is_digit_byte k → (t : List ℕ) → matches (Either Empty exponent_part) k t ≡ end_then k t
 unfolding matches
-end_read k h t = ap (λ x. k t || x) (one_same is_e (matches (Then (Either Empty (One is_sign)) digits) k) (power_then k) power t)
+end_read k h t = ap (λ x. k t || x) (one_same is_e (matches (Then (Either Empty (One is_sign)) some_digits) k) (power_then k) power t)
   where
-    power : (t : List ℕ) → matches (Then (Either Empty (One is_sign)) digits) k t ≡ power_then k t
-    power t = ap (λ x. x || one_then is_sign (matches digits k) t) (digits_read k h t) ∙ ap (λ x. more_digits k t || x) (one_same is_sign (matches digits k) (more_digits k) (digits_read k h) t)
+    power : (t : List ℕ) → matches (Then (Either Empty (One is_sign)) some_digits) k t ≡ power_then k t
+    power t = ap (λ x. x || one_then is_sign (matches some_digits k) t) (digits_read k h t) ∙ ap (λ x. more_digits k t || x) (one_same is_sign (matches some_digits k) (more_digits k) (digits_read k h) t)
 
 abbrev ending : (List ℕ → Bool) → List ℕ → Bool
-ending k = matches (Either Empty exponent) k
+ending k = matches (Either Empty exponent_part) k
 
 ending_stops : (k : List ℕ → Bool) → StopsAt is_digit_byte k → StopsAt is_digit_byte (ending k)
 ending_stops k h b t e = end_read k h (b ∷ t) ∙ end_stops k h b t e
@@ -222,10 +229,10 @@ whole_read k h t =
     ∙ greedy_same is_digit_byte (matches pointed (ending k)) (point_then k) (point_read k h) t
 
 -- a numeral that begins with a byte
-numeral_read : (k : List ℕ → Bool) → StopsAt is_digit_byte k → (b : ℕ) (t : List ℕ) → matches numeral k (b ∷ t) ≡ (cond (is_digit_byte b) (whole_then k t) false || cond (nat_eq b 46) (more_digits (end_then k) t) false)
+numeral_read : (k : List ℕ → Bool) → StopsAt is_digit_byte k → (b : ℕ) (t : List ℕ) → matches numeral_word k (b ∷ t) ≡ (cond (is_digit_byte b) (whole_then k t) false || cond (nat_eq b 46) (more_digits (end_then k) t) false)
 unfolding matches
 numeral_read k h b t =
-    ap (λ x. cond (is_digit_byte b) x false || cond (nat_eq b 46) (matches digits (ending k) t) false) (whole_read k h t)
+    ap (λ x. cond (is_digit_byte b) x false || cond (nat_eq b 46) (matches some_digits (ending k) t) false) (whole_read k h t)
     ∙ ap (λ x. cond (is_digit_byte b) (whole_then k t) false || cond (nat_eq b 46) x false)
     (digits_read (ending k) (ending_stops k h) t ∙ one_same is_digit_byte (greedy is_digit_byte (ending k)) (greedy is_digit_byte (end_then k)) (greedy_same is_digit_byte (ending k) (end_then k) (end_read k h)) t)
 
@@ -336,6 +343,29 @@ comment_words step s (suc n) (b ∷ t) l = go (nat_eq b 42) refl (comment_words 
     go false e ih = rw (s (many_then n step (star_slash is_empty)) (b ∷ t), s (many_then n step is_empty) (b ∷ t), e) ih
 
 -- ---- symbols
+-- the first of these symbols that the bytes are
+abbrev symbol_in : List (List ℕ × Symbol) → List ℕ → Option Word
+symbol_in [] bytes = None
+symbol_in (row ∷ rows) bytes = cond (bytes_eq bytes row.0) (Some (SymbolWord row.1)) (symbol_in rows bytes)
+
+literal_read : (t u : List ℕ) → matches (literal u) is_empty t ≡ bytes_eq t u
+unfolding matches
+literal_read [] [] = refl
+literal_read (b ∷ t) [] = refl
+literal_read [] (c ∷ u) = refl
+literal_read (b ∷ t) (c ∷ u) = go (nat_eq b c) (literal_read t u)
+  where
+    go : (e : Bool) → matches (literal u) is_empty t ≡ bytes_eq t u → cond e (matches (literal u) is_empty t) false ≡ (e && bytes_eq t u)
+    go true h = h
+    go false h = refl
+
+abbrev symbol_rows : List (List ℕ × Symbol) → List (Expression × Word)
+symbol_rows rows = map (λ row. (literal row.0, SymbolWord row.1)) rows
+
+symbol_matches : (rows : List (List ℕ × Symbol)) (t : List ℕ) → first_match (symbol_rows rows) t ≡ symbol_in rows t
+symbol_matches [] t = refl
+symbol_matches (row ∷ rows) t = ap (λ x. cond x (Some (SymbolWord row.1)) (first_match (symbol_rows rows) t)) (literal_read t row.0) ∙ ap (λ x. cond (bytes_eq t row.0) (Some (SymbolWord row.1)) x) (symbol_matches rows t)
+
 abbrev is_apart : (ℕ → Bool) → List ℕ → Bool
 is_apart p [] = false
 is_apart p (c ∷ cs) = not (p c)
@@ -396,10 +426,10 @@ chosen a b c d e f g h s =
     (cond g (Some Text) (cond h (Some UnclosedText) s)))))))
 
 abbrev special : Expression
-special = Then (literal (codes "$")) name
+special = Then (literal (codes "$")) name_word
 
 abbrev numeral_and_letter : Expression
-numeral_and_letter = Then numeral (One is_letter_byte)
+numeral_and_letter = Then numeral_word (One is_letter_byte)
 
 abbrev text_end : Expression
 text_end = literal (codes "\"")
@@ -407,11 +437,11 @@ text_end = literal (codes "\"")
 abbrev text_break : Expression
 text_break = Either Empty (literal (codes "\\"))
 
-chosen_by : (t : List ℕ) (a b c d e f g h : Bool) (s : Option Word) → is_match blank t ≡ a → is_match open_comment t ≡ b → is_match name t ≡ c → is_match special t ≡ d →
-    is_match numeral t ≡ e → is_match numeral_and_letter t ≡ f → is_match (Then open_text text_end) t ≡ g → is_match (Then open_text text_break) t ≡ h →
+chosen_by : (t : List ℕ) (a b c d e f g h : Bool) (s : Option Word) → is_match blank t ≡ a → is_match open_comment t ≡ b → is_match name_word t ≡ c → is_match special t ≡ d →
+    is_match numeral_word t ≡ e → is_match numeral_and_letter t ≡ f → is_match (Then open_text text_end) t ≡ g → is_match (Then open_text text_break) t ≡ h →
     symbol_in symbols t ≡ s → word_of_bytes t ≡ chosen a b c d e f g h s
 unfolding word_of_bytes
-chosen_by t a b c d e f g h s ha hb hc hd he hf hg hh hs = rw (ha, hb, hc, hd, he, hf, hg, hh, hs) refl
+chosen_by t a b c d e f g h s ha hb hc hd he hf hg hh hs = rw (ha, hb, hc, hd, he, hf, hg, hh) (ap (chosen a b c d e f g h) (symbol_matches symbols t ∙ hs))
 
 -- where the first byte begins no such word
 not_blank : (b : ℕ) (t : List ℕ) → is_blank_byte b ≡ false → nat_eq b 47 ≡ false → is_match blank (b ∷ t) ≡ false
@@ -422,7 +452,7 @@ not_comment : (b : ℕ) (t : List ℕ) → nat_eq b 47 ≡ false → is_match op
 unfolding matches
 not_comment b t e = rw e refl
 
-not_name : (b : ℕ) (t : List ℕ) → is_letter_byte b ≡ false → is_match name (b ∷ t) ≡ false
+not_name : (b : ℕ) (t : List ℕ) → is_letter_byte b ≡ false → is_match name_word (b ∷ t) ≡ false
 unfolding matches
 not_name b t e = rw e refl
 
@@ -430,7 +460,7 @@ not_special : (b : ℕ) (t : List ℕ) → nat_eq b 36 ≡ false → is_match sp
 unfolding matches
 not_special b t e = rw e refl
 
-not_numeral : (b : ℕ) (t : List ℕ) → is_digit_byte b ≡ false → nat_eq b 46 ≡ false → is_match numeral (b ∷ t) ≡ false
+not_numeral : (b : ℕ) (t : List ℕ) → is_digit_byte b ≡ false → nat_eq b 46 ≡ false → is_match numeral_word (b ∷ t) ≡ false
 not_numeral b t e f = numeral_read is_empty (λ c u g. refl) b t ∙ rw (e, f) refl
 
 letter_stops : StopsAt is_digit_byte (matches (One is_letter_byte) is_empty)
@@ -473,11 +503,12 @@ at_blank b t h =
   where
     out : (c : ℕ) → is_blank_byte c ≡ false → nat_eq b c ≡ false
     out c e = apart is_blank_byte b c h e
+
     last : (t : List ℕ) → chosen (is_empty t) false false false false false false false None ≡ where_last Blank t
     last [] = refl
     last (c ∷ t) = refl
 
-name_byte : (b : ℕ) (t : List ℕ) → is_letter_byte b ≡ true → is_match name (b ∷ t) ≡ all_bytes is_name_byte t
+name_byte : (b : ℕ) (t : List ℕ) → is_letter_byte b ≡ true → is_match name_word (b ∷ t) ≡ all_bytes is_name_byte t
 unfolding matches
 name_byte b t h = ap (λ x. cond x (matches (Many (One is_name_byte)) is_empty t) false) h ∙ all_of is_name_byte t
 
@@ -497,6 +528,7 @@ at_digit b t h =
   where
     out : (c : ℕ) → is_digit_byte c ≡ false → nat_eq b c ≡ false
     out c e = apart is_digit_byte b c h e
+
     here : (x y : Bool) → (cond (is_digit_byte b) x false || cond (nat_eq b 46) y false) ≡ x
     here x y = rw (h, apart is_digit_byte b 46 h refl) (or_false x)
 
@@ -556,8 +588,10 @@ at_slash (c ∷ t) = go (nat_eq c 47) (nat_eq c 42) (λ e. eqb-true c 47 e) (λ 
   where
     whole : Bool
     whole = matches (Many comment_byte) (matches (literal (codes "*/")) is_empty) t
+
     begun : Bool
     begun = matches (Many comment_byte) is_empty t
+
     go : (s k : Bool) → (s ≡ true → c ≡ 47) → (k ≡ true → c ≡ 42) → matches (Many in_line) is_empty t ≡ all_bytes is_in_line t → in_comment t ≡ comments whole begun →
         chosen (cond s (matches (Many in_line) is_empty t) false || cond k whole false) (cond k begun false) false false false false false false None
         ≡ cond s (word_where (all_bytes is_in_line t) Blank) (cond k (in_comment t) None)
@@ -576,6 +610,7 @@ from_byte b t = go (is_blank_byte b) (is_letter_byte b) (is_digit_byte b) (nat_e
   where
     at_byte : (c : ℕ) (g : List ℕ → Option Word) → ((u : List ℕ) → word_of_bytes (c ∷ u) ≡ g u) → nat_eq b c ≡ true → word_of_bytes (b ∷ t) ≡ g t
     at_byte c g h e = ap (λ d. word_of_bytes (d ∷ t)) (eqb-true b c e) ∙ h t
+
     go : (k l d o q p s : Bool) → is_blank_byte b ≡ k → is_letter_byte b ≡ l → is_digit_byte b ≡ d → nat_eq b 36 ≡ o → nat_eq b 34 ≡ q → nat_eq b 46 ≡ p → nat_eq b 47 ≡ s → word_of_bytes (b ∷ t) ≡
         cond k (where_last Blank t) (cond l (word_where (all_bytes is_name_byte t) Name) (cond d (in_whole t) (cond o (after_dollar t) (cond q (in_text t) (cond p (after_point t) (cond s (after_slash t) (symbol_of b t)))))))
     go true l d o q p s hk hl hd ho hq hp hs = at_blank b t hk

@@ -1,12 +1,12 @@
 -- The words of a source byte by byte, as the scanner reads them: what a word is, by the bytes of it that are left.
-use Rattle.std.specs.Prelude.{◌≡◌, ℕ, suc, ◌+◌, ◌≤◌, List, [], ◌∷◌, length, take, Bool, true, false, cond, ◌||◌, ◌&&◌, not, nat_eq, nat_le, Option, Some, None}
+use Rattle.std.specs.Prelude.{ℕ, suc, ◌+◌, List, [], ◌∷◌, Bool, true, false, cond, ◌||◌, ◌&&◌, not, nat_eq, nat_le, Option, Some, None}
 use Rattle.scad_lexer.specs.declared.class.ByteClass.{ByteClass}
 use Rattle.scad_lexer.specs.declared.class.ByteClass.TheVariants.{BlankByte, Letter, Digit, NameByte, InLine, Exponent, Sign, Printable, Byte}
 use Rattle.scad_lexer.specs.declared.token.Symbol.{Symbol}
 use Rattle.scad_lexer.specs.declared.token.Symbol.TheVariants.{OpenParenthesis, CloseParenthesis, OpenBracket, CloseBracket, OpenBrace, CloseBrace, Comma, Semicolon, Assign, Colon, Question, Dot, Plus, Minus, Times, Divide, Remainder, Less, Greater, LessEqual, GreaterEqual, Equal, NotEqual, And, Or, Not, Hash, Caret}
 use Rattle.scad_lexer.specs.declared.word.Word.{Word}
 use Rattle.scad_lexer.specs.declared.word.Word.TheVariants.{Blank, UnclosedComment, Name, Special, Numeral, NumeralAndLetter, Text, UnclosedText, Symbol as SymbolWord}
-use Rattle.scad_lexer.specs.Words.{is_blank_byte, is_letter_byte, is_digit_byte, is_name_byte, all_bytes}
+use Rattle.scad_lexer.specs.Words.{is_blank_byte, is_letter_byte, is_digit_byte, is_name_byte}
 
 -- a byte of the class
 abbrev pub is_of_class : ByteClass → ℕ → Bool
@@ -24,6 +24,11 @@ is_of_class (Byte only) byte = nat_eq byte only
 abbrev pub begins_with : (ℕ → Bool) → List ℕ → Bool
 begins_with test [] = false
 begins_with test (byte ∷ bytes) = test byte
+
+-- all are so
+abbrev pub all_bytes : (ℕ → Bool) → List ℕ → Bool
+all_bytes test [] = true
+all_bytes test (byte ∷ bytes) = cond (test byte) (all_bytes test bytes) false
 
 -- this word, where the test holds
 abbrev pub word_where : Bool → Word → Option Word

@@ -1,9 +1,5 @@
 -- Words of a source: blanks, comments and tokens (OpenSCAD User Manual, in the profile of this server).
-use Rattle.std.specs.Prelude.{◌≡◌, ℕ, zero, suc, ◌+◌, ◌≤◌, List, [], ◌∷◌, length, take, Bool, true, false, cond, codes, ◌||◌, ◌&&◌, not, nat_eq, nat_le, Option, Some, None}
-use Rattle.std.specs.Str.{bytes_eq}
-use Rattle.scad_lexer.specs.declared.class.ByteClass.{ByteClass}
-use Rattle.std.specs.Str.{bytes_eq}
-use Rattle.scad_lexer.specs.declared.class.ByteClass.TheVariants.{BlankByte, Letter, Digit, NameByte, InLine, Exponent, Sign, Printable, Byte}
+use Rattle.std.specs.Prelude.{◌≡◌, ℕ, zero, suc, ◌≤◌, List, [], ◌∷◌, length, take, Bool, true, false, cond, codes, map, ◌++◌, ◌||◌, ◌&&◌, not, nat_eq, nat_le, Option, Some, None}
 use Rattle.scad_lexer.specs.declared.token.Symbol.{Symbol}
 use Rattle.scad_lexer.specs.declared.token.Symbol.TheVariants.{OpenParenthesis, CloseParenthesis, OpenBracket, CloseBracket, OpenBrace, CloseBrace, Comma, Semicolon, Assign, Colon, Question, Dot, Plus, Minus, Times, Divide, Remainder, Less, Greater, LessEqual, GreaterEqual, Equal, NotEqual, And, Or, Not, Hash, Caret}
 use Rattle.scad_lexer.specs.declared.word.Word.{Word}
@@ -30,13 +26,7 @@ abbrev pub run_of : (ℕ → Bool) → List ℕ → ℕ
 run_of test [] = 0
 run_of test (byte ∷ bytes) = cond (test byte) (suc (run_of test bytes)) 0
 
--- all are so
-abbrev pub all_bytes : (ℕ → Bool) → List ℕ → Bool
-all_bytes test [] = true
-all_bytes test (byte ∷ bytes) = cond (test byte) (all_bytes test bytes) false
-
--- a regular expression of bytes: nothing, one byte that is so, one after another, one or another, any number of times,
--- and nothing where the given one doesn't begin
+-- a regular expression: no byte, a byte that is so, a sequence, a choice, a repetition, and no byte where another doesn't match
 pub data Expression : Type 0 where
   Empty : Expression
   One : (ℕ → Bool) → Expression
@@ -45,17 +35,17 @@ pub data Expression : Type 0 where
   Many : Expression → Expression
   Unless : Expression → Expression
 
--- one byte that is so, and then what goes on
+-- a byte that is so, and then what goes on
 abbrev pub one_then : (ℕ → Bool) → (List ℕ → Bool) → List ℕ → Bool
 one_then test rest [] = false
 one_then test rest (byte ∷ bytes) = cond (test byte) (rest bytes) false
 
--- the same step at most so many times, and then what goes on
+-- a step at most so many times, and then what goes on
 unfoldable pub many_then : ℕ → ((List ℕ → Bool) → List ℕ → Bool) → (List ℕ → Bool) → List ℕ → Bool
 many_then zero step rest bytes = rest bytes
 many_then (suc n) step rest bytes = rest bytes || step (many_then n step rest) bytes
 
--- whether the expression matches bytes at the front, behind which the rest is so (Kleene's regular expressions)
+-- whether the expression matches bytes at the front, behind which the rest is so; what it repeats comes once a byte at most
 unfoldable pub matches : Expression → (List ℕ → Bool) → List ℕ → Bool
 matches Empty rest bytes = rest bytes
 matches (One test) rest bytes = one_then test rest bytes
@@ -82,34 +72,30 @@ in_line = One (λ c. not (nat_eq c 10))
 abbrev pub open_comment : Expression
 open_comment = Then (literal (codes "/*")) (Many (Then (Unless (literal (codes "*/"))) (One (λ c. true))))
 
--- a blank byte, a comment to the end of its line, or one up to the first `*/`
-abbrev pub blank : Expression
-blank = Either (One is_blank_byte) (Either (Then (literal (codes "//")) (Many in_line)) (Then open_comment (literal (codes "*/"))))
-
 -- a letter, and what a name may go on with
-abbrev pub name : Expression
-name = Then (One is_letter_byte) (Many (One is_name_byte))
+abbrev pub name_word : Expression
+name_word = Then (One is_letter_byte) (Many (One is_name_byte))
 
 -- digits, at least one
-abbrev pub digits : Expression
-digits = Then (One is_digit_byte) (Many (One is_digit_byte))
+abbrev pub some_digits : Expression
+some_digits = Then (One is_digit_byte) (Many (One is_digit_byte))
 
 -- `e` or `E`, a sign or none, and digits
-abbrev pub exponent : Expression
-exponent = Then (One (λ c. nat_eq c 101 || nat_eq c 69)) (Then (Either Empty (One (λ c. nat_eq c 43 || nat_eq c 45))) digits)
+abbrev pub exponent_part : Expression
+exponent_part = Then (One (λ c. nat_eq c 101 || nat_eq c 69)) (Then (Either Empty (One (λ c. nat_eq c 43 || nat_eq c 45))) some_digits)
 
 -- digits with or without a point and more of them, or a point and digits; with or without an exponent
-abbrev pub numeral : Expression
-numeral =
-    Then (Either (Then digits (Either Empty (Then (literal (codes ".")) (Many (One is_digit_byte))))) (Then (literal (codes ".")) digits))
-    (Either Empty exponent)
+abbrev pub numeral_word : Expression
+numeral_word =
+    Then (Either (Then some_digits (Either Empty (Then (literal (codes ".")) (Many (One is_digit_byte))))) (Then (literal (codes ".")) some_digits))
+    (Either Empty exponent_part)
 
 -- a text without its end: a quote, and bytes of its line, where a backslash takes the next byte with it
 abbrev pub open_text : Expression
 open_text =
     Then (literal (codes "\"")) (Many (Either (Then (literal (codes "\\")) in_line) (One (λ c. not (nat_eq c 34 || nat_eq c 92 || nat_eq c 10)))))
 
--- the symbols
+-- the symbols, and how they are written
 abbrev pub symbols : List (List ℕ × Symbol)
 symbols =
     (codes "(", OpenParenthesis) ∷ (codes ")", CloseParenthesis) ∷ (codes "[", OpenBracket) ∷ (codes "]", CloseBracket)
@@ -119,23 +105,22 @@ symbols =
     ∷ (codes "^", Caret) ∷ (codes ".", Dot) ∷ (codes "/", Divide) ∷ (codes "<=", LessEqual) ∷ (codes ">=", GreaterEqual)
     ∷ (codes "==", Equal) ∷ (codes "!=", NotEqual) ∷ (codes "&&", And) ∷ (codes "||", Or) ∷ []
 
--- the first of these symbols that the bytes are
-abbrev pub symbol_in : List (List ℕ × Symbol) → List ℕ → Option Word
-symbol_in [] bytes = None
-symbol_in (row ∷ rows) bytes = cond (bytes_eq bytes row.0) (Some (SymbolWord row.1)) (symbol_in rows bytes)
+-- the other words, by what they match: a blank is a blank byte, a comment to its line's end, or one to its first `*/`
+abbrev pub words : List (Expression × Word)
+words =
+    (Either (One is_blank_byte) (Either (Then (literal (codes "//")) (Many in_line)) (Then open_comment (literal (codes "*/")))), Blank)
+    ∷ (open_comment, UnclosedComment) ∷ (name_word, Name) ∷ (Then (literal (codes "$")) name_word, Special)
+    ∷ (numeral_word, Numeral) ∷ (Then numeral_word (One is_letter_byte), NumeralAndLetter)
+    ∷ (Then open_text (literal (codes "\"")), Text) ∷ (Then open_text (Either Empty (literal (codes "\\"))), UnclosedText) ∷ []
 
--- whether these bytes are what the expression matches
-abbrev pub is_match : Expression → List ℕ → Bool
-is_match expression bytes = matches expression is_empty bytes
+-- the first of these words that the bytes are
+abbrev pub first_match : List (Expression × Word) → List ℕ → Option Word
+first_match [] bytes = None
+first_match (row ∷ rows) bytes = cond (matches row.0 is_empty bytes) (Some row.1) (first_match rows bytes)
 
--- what these bytes are, if they are one word (OpenSCAD User Manual)
+-- what these bytes are, if they are one word
 unfoldable pub word_of_bytes : List ℕ → Option Word
-word_of_bytes bytes =
-    cond (is_match blank bytes) (Some Blank) (cond (is_match open_comment bytes) (Some UnclosedComment)
-    (cond (is_match name bytes) (Some Name) (cond (is_match (Then (literal (codes "$")) name) bytes) (Some Special)
-    (cond (is_match numeral bytes) (Some Numeral) (cond (is_match (Then numeral (One is_letter_byte)) bytes) (Some NumeralAndLetter)
-    (cond (is_match (Then open_text (literal (codes "\""))) bytes) (Some Text)
-    (cond (is_match (Then open_text (Either Empty (literal (codes "\\")))) bytes) (Some UnclosedText) (symbol_in symbols bytes))))))))
+word_of_bytes bytes = first_match (words ++ map (λ row. (literal row.0, SymbolWord row.1)) symbols) bytes
 
 -- the first n bytes are this word, and no more bytes are any
 pub record IsLongest (text : List ℕ) (n : ℕ) (word : Word) : Type 0 where
