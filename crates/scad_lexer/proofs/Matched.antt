@@ -7,7 +7,7 @@ use Rattle.scad_lexer.specs.declared.token.Symbol.{Symbol}
 use Rattle.scad_lexer.specs.declared.token.Symbol.TheVariants.{OpenParenthesis, CloseParenthesis, OpenBracket, CloseBracket, OpenBrace, CloseBrace, Comma, Semicolon, Assign, Colon, Question, Plus, Minus, Times, Remainder, Less, Greater, Not, Hash, Caret, Dot, Divide, LessEqual, GreaterEqual, Equal, NotEqual, And, Or}
 use Rattle.scad_lexer.specs.declared.word.Word.{Word}
 use Rattle.scad_lexer.specs.declared.word.Word.TheVariants.{Blank, UnclosedComment, Name, Special, Numeral, NumeralAndLetter, Text, UnclosedText, Symbol as SymbolWord}
-use Rattle.scad_lexer.specs.Words.{is_blank_byte, is_letter_byte, is_digit_byte, is_name_byte, Expression, Empty, One, Then, Either, Many, Unless, one_then, many_then, matches, is_empty, literal, in_line, open_comment, name_word, some_digits, exponent_part, numeral_word, open_text, symbols, first_match, word_of_bytes}
+use Rattle.scad_lexer.specs.Words.{is_blank_byte, is_letter_byte, is_digit_byte, is_name_byte, Expression, Empty, One, Then, Either, Many, Unless, many_then, matches, is_empty, literal, in_line, open_comment, name_word, some_digits, exponent_part, numeral_word, open_text, symbols, first_match, word_of_bytes}
 use Rattle.scad_lexer.specs.Scanning.{all_bytes, word_where, where_last, in_exponent, after_sign, after_e, number_end, in_fraction, in_whole, after_point, in_text, in_escape, in_comment, after_star, after_slash, after_dollar, one_byte_symbol, two_byte_symbol, symbol_word, symbol_of, word_from, word_read}
 
 -- a blank
@@ -21,6 +21,10 @@ or_false : (a : Bool) → (a || false) ≡ a
 or_false true = refl
 or_false false = refl
 
+-- a byte of a class, and then what goes on
+abbrev one_then : (ℕ → Bool) → (List ℕ → Bool) → List ℕ → Bool
+one_then p k t = matches (One p) k t
+
 -- ---- any number of bytes of a class, as many as there are
 abbrev greedy : (ℕ → Bool) → (List ℕ → Bool) → List ℕ → Bool
 greedy p k [] = k []
@@ -33,7 +37,7 @@ abbrev Step : Type 0
 Step = (List ℕ → Bool) → List ℕ → Bool
 
 run_greedy : (p : ℕ → Bool) (step : Step) → ((k : List ℕ → Bool) (t : List ℕ) → step k t ≡ one_then p k t) → (k : List ℕ → Bool) → StopsAt p k → (n : ℕ) (t : List ℕ) → length t ≤ n → many_then n step k t ≡ greedy p k t
-unfolding many_then
+unfolding many_then matches
 run_greedy p step s k h zero [] l = refl
 run_greedy p step s k h zero (b ∷ t) l = absurd (omega arith)
 run_greedy p step s k h (suc n) [] l = ap (λ x. k [] || x) (s (many_then n step k) []) ∙ or_false (k [])
@@ -52,6 +56,7 @@ greedy_same p k j h [] = h []
 greedy_same p k j h (b ∷ t) = ap (λ x. cond (p b) x (k (b ∷ t))) (greedy_same p k j h t) ∙ ap (λ x. cond (p b) (greedy p j t) x) (h (b ∷ t))
 
 one_same : (p : ℕ → Bool) (k j : List ℕ → Bool) → ((t : List ℕ) → k t ≡ j t) → (t : List ℕ) → one_then p k t ≡ one_then p j t
+unfolding matches
 one_same p k j h [] = refl
 one_same p k j h (b ∷ t) = ap (λ x. cond (p b) x false) (h t)
 
@@ -117,16 +122,19 @@ e_letter : (b : ℕ) → is_e b ≡ true → is_letter_byte b ≡ true
 e_letter b h = grind (arith, nat_tests)
 
 lettered_stops : StopsAt is_digit_byte lettered
+unfolding matches
 lettered_stops b t e = rw (no_letter b e) refl
 
 end_stops : (k : List ℕ → Bool) → StopsAt is_digit_byte k → StopsAt is_digit_byte (end_then k)
+unfolding matches
 end_stops k h b t e = rw (h b t e, no_e b e) refl
 
 point_stops : (k : List ℕ → Bool) → StopsAt is_digit_byte k → StopsAt is_digit_byte (point_then k)
+unfolding matches
 point_stops k h b t e = rw (h b t e, no_e b e, apart is_digit_byte b 46 e refl) refl
 
 exponent_words : (t : List ℕ) → in_exponent t ≡ numbers (greedy is_digit_byte is_empty t) (greedy is_digit_byte lettered t)
-unfolding in_exponent
+unfolding in_exponent matches
 exponent_words [] = refl
 exponent_words (b ∷ t) = go (is_digit_byte b) (is_letter_byte b) t (exponent_words t)
   where
@@ -138,6 +146,7 @@ exponent_words (b ∷ t) = go (is_digit_byte b) (is_letter_byte b) t (exponent_w
     go false false t ih = refl
 
 sign_words : (t : List ℕ) → after_sign t ≡ numbers (more_digits is_empty t) (more_digits lettered t)
+unfolding matches
 sign_words [] = refl
 sign_words (b ∷ t) = go (is_digit_byte b)
   where
@@ -146,6 +155,7 @@ sign_words (b ∷ t) = go (is_digit_byte b)
     go false = refl
 
 power_words : (t : List ℕ) → after_e t ≡ numbers (power_then is_empty t) (is_empty t || power_then lettered t)
+unfolding matches
 power_words [] = refl
 power_words (b ∷ t) = go (is_digit_byte b) (is_sign b) (no_sign b)
   where
@@ -160,6 +170,7 @@ power_words (b ∷ t) = go (is_digit_byte b) (is_sign b) (no_sign b)
     go false false h = refl
 
 end_words : (t : List ℕ) → number_end t ≡ numbers (end_then is_empty t) (end_then lettered t)
+unfolding matches
 end_words [] = refl
 end_words (b ∷ t) = go (is_e b) (is_letter_byte b) t (e_letter b)
   where
@@ -171,7 +182,7 @@ end_words (b ∷ t) = go (is_e b) (is_letter_byte b) t (e_letter b)
     go false false t h = refl
 
 fraction_words : (t : List ℕ) → in_fraction t ≡ numbers (fraction_then is_empty t) (fraction_then lettered t)
-unfolding in_fraction
+unfolding in_fraction matches
 fraction_words [] = refl
 fraction_words (b ∷ t) = go (is_digit_byte b) (fraction_words t)
   where
@@ -181,7 +192,7 @@ fraction_words (b ∷ t) = go (is_digit_byte b) (fraction_words t)
     go false ih = end_words (b ∷ t)
 
 whole_words : (t : List ℕ) → in_whole t ≡ numbers (whole_then is_empty t) (whole_then lettered t)
-unfolding in_whole
+unfolding in_whole matches
 whole_words [] = refl
 whole_words (b ∷ t) = go (is_digit_byte b) (nat_eq b 46) refl (whole_words t)
   where
@@ -274,7 +285,7 @@ unfolding many_then
 many_step n step other s k t = ap (λ x. k t || x) (s (many_then n step k) t)
 
 text_words : (step : Step) → IsStep step text_step → (n : ℕ) (t : List ℕ) → length t ≤ n → in_text t ≡ texts (many_then n step closed t) (many_then n step broken_off t)
-unfolding in_text in_escape many_then
+unfolding in_text in_escape many_then matches
 text_words step s zero [] l = refl
 text_words step s zero (b ∷ t) l = absurd (omega arith)
 text_words step s (suc n) [] l = rw (s (many_then n step closed) []) refl
@@ -321,7 +332,7 @@ comments whole begun = cond whole (Some Blank) (cond begun (Some UnclosedComment
 
 star_words : (step : Step) → IsStep step comment_step → (n : ℕ) (t : List ℕ) → in_comment t ≡ comments (many_then n step (star_slash is_empty) t) (many_then n step is_empty t) →
     after_star t ≡ comments (many_then (suc n) step (star_slash is_empty) (42 ∷ t)) (many_then (suc n) step is_empty (42 ∷ t))
-unfolding in_comment after_star many_then
+unfolding in_comment after_star many_then matches
 star_words step s n [] h = rw (s (many_then n step (star_slash is_empty)) (42 ∷ []), s (many_then n step is_empty) (42 ∷ [])) h
 star_words step s n (c ∷ t) h = rw (s (many_then n step (star_slash is_empty)) (42 ∷ c ∷ t), s (many_then n step is_empty) (42 ∷ c ∷ t)) (go (nat_eq c 47) t (cond (nat_eq c 42) (after_star t) (in_comment t)) (many_then n step (star_slash is_empty) (c ∷ t)) (many_then n step is_empty (c ∷ t)) h)
   where
@@ -331,7 +342,7 @@ star_words step s n (c ∷ t) h = rw (s (many_then n step (star_slash is_empty))
     go false t x a b h = h
 
 comment_words : (step : Step) → IsStep step comment_step → (n : ℕ) (t : List ℕ) → length t ≤ n → in_comment t ≡ comments (many_then n step (star_slash is_empty) t) (many_then n step is_empty t)
-unfolding in_comment after_star many_then
+unfolding in_comment after_star many_then matches
 comment_words step s zero [] l = refl
 comment_words step s zero (b ∷ t) l = absurd (omega arith)
 comment_words step s (suc n) [] l = rw (s (many_then n step (star_slash is_empty)) []) refl
@@ -560,6 +571,7 @@ unfolding word_of_bytes matches many_then
 point_alone = refl
 
 at_point : (t : List ℕ) → word_of_bytes (46 ∷ t) ≡ after_point t
+unfolding matches
 at_point [] = point_alone
 at_point (c ∷ t) =
     chosen_by (46 ∷ c ∷ t) false false false false (more_digits (end_then is_empty) (c ∷ t)) (more_digits (end_then lettered) (c ∷ t)) false false None (not_blank 46 (c ∷ t) refl refl) (not_comment 46 (c ∷ t) refl) (not_name 46 (c ∷ t) refl) (not_special 46 (c ∷ t) refl)

@@ -35,20 +35,16 @@ pub data Expression : Type 0 where
   Many : Expression → Expression
   Unless : Expression → Expression
 
--- a byte that is so, and then what goes on
-abbrev pub one_then : (ℕ → Bool) → (List ℕ → Bool) → List ℕ → Bool
-one_then test rest [] = false
-one_then test rest (byte ∷ bytes) = cond (test byte) (rest bytes) false
-
 -- a step at most so many times, and then what goes on
 unfoldable pub many_then : ℕ → ((List ℕ → Bool) → List ℕ → Bool) → (List ℕ → Bool) → List ℕ → Bool
 many_then zero step rest bytes = rest bytes
 many_then (suc n) step rest bytes = rest bytes || step (many_then n step rest) bytes
 
--- whether the expression matches bytes at the front, behind which the rest is so; what it repeats comes once a byte at most
+-- whether the expression matches bytes at the front, behind which the rest is so; it repeats at most as often as there are bytes
 unfoldable pub matches : Expression → (List ℕ → Bool) → List ℕ → Bool
 matches Empty rest bytes = rest bytes
-matches (One test) rest bytes = one_then test rest bytes
+matches (One test) rest [] = false
+matches (One test) rest (byte ∷ bytes) = cond (test byte) (rest bytes) false
 matches (Then first second) rest bytes = matches first (matches second rest) bytes
 matches (Either first second) rest bytes = matches first rest bytes || matches second rest bytes
 matches (Many each) rest bytes = many_then (length bytes) (matches each) rest bytes
