@@ -8,17 +8,30 @@ from typing import NamedTuple
 
 from .text_place import Fault, Place, least_too_large
 
-# Each word as long as possible: no part behind another one can take a byte from it.
-word_of_bytes = re.compile(rb"""
-    (?P<Blank>[ \t\r\n]+|//[^\n]*|/\*.*?\*/)
-    |(?P<UnclosedComment>/\*)
-    |(?P<Name>[A-Za-z_][A-Za-z0-9_]*)
-    |(?P<Special>\$[A-Za-z_][A-Za-z0-9_]*)
-    |(?P<Numeral>(?:[0-9]+(?:\.[0-9]*)?|\.[0-9]+)(?:[eE][+-]?[0-9]+)?)(?P<AndLetter>[A-Za-z_])?
-    |(?P<Text>"(?:\\[^\n]|[^"\\\n])*")
-    |(?P<UnclosedText>")
-    |(?P<Symbol><=|>=|==|!=|&&|\|\||[](){},;=:?.+*/%<>!\#^[-])
-""", re.VERBOSE | re.DOTALL)
+in_line = rb"[^\n]"
+open_comment = rb"/\*(?:(?!\*/).)*"
+name_word = rb"[A-Za-z_][A-Za-z0-9_]*"
+some_digits = rb"[0-9]+"
+exponent_part = rb"[eE][+-]?" + some_digits
+numeral_word = rb"(?:%b(?:\.[0-9]*)?|\.%b)(?:%b)?" % (some_digits, some_digits, exponent_part)
+open_text = rb'"(?:\\%b|[^"\\\n])*' % in_line
+symbols = (
+    b"(", b")", b"[", b"]", b"{", b"}", b",", b";", b"=", b":", b"?", b"+", b"-", b"*", b"%", b"<", b">", b"!", b"#", b"^", b".",
+    b"/", b"<=", b">=", b"==", b"!=", b"&&", b"||")
+
+# Each word as long as possible: no part behind another one can take a byte from it. Blank bytes are taken together.
+words = (
+    rb"(?P<Blank>[ \t\r\n]+|//%b*|%b\*/)" % (in_line, open_comment),
+    rb"(?P<UnclosedComment>%b)" % open_comment,
+    rb"(?P<Name>%b)" % name_word,
+    rb"(?P<Special>\$%b)" % name_word,
+    rb"(?P<Numeral>%b)(?P<NumeralAndLetter>[A-Za-z_])?" % numeral_word,
+    rb'(?P<Text>%b")' % open_text,
+    rb"(?P<UnclosedText>%b\\?)" % open_text,
+    rb"(?P<Symbol>%b)" % b"|".join(map(re.escape, sorted(symbols, key=len, reverse=True))),
+)
+
+word_of_bytes = re.compile(b"|".join(words), re.DOTALL)
 
 reserved = frozenset((
     "module", "function", "if", "else", "for", "intersection_for", "true", "false", "undef", "use", "include", "let", "each"))
@@ -46,7 +59,7 @@ class BadWord(Exception):
 
 def zero_fraction(rest: bytes) -> bool:
     """Behind the whole part of a numeral: nothing, or a point and zeros."""
-    return rest == b"" or (rest[:1] == b"." and rest[1:].strip(b"0") == b"")
+    return re.fullmatch(rb"(?:\.0*)?", rest) is not None
 
 
 def decimal_from(digits: bytes) -> int:
@@ -105,7 +118,7 @@ def class_and_value(kind: str, word: bytes) -> tuple[str, int | bytes]:
         return text_class, bytes_written(word[1:-1])
     if kind == "Special":
         return child_count_class if word == b"$children" else special_class, word[1:]
-    if kind == "AndLetter":
+    if kind == "NumeralAndLetter":
         return numeral_class, letter_after_numeral(word)
     raise BadWord({"UnclosedComment": "OpenComment", "UnclosedText": "OpenText"}[kind], 0)
 

@@ -7,7 +7,7 @@ use Rattle.scad_lexer.specs.declared.token.TokenKind.{TokenKind}
 use Rattle.scad_lexer.specs.declared.token.TokenKind.TheVariants.{Numeral, Name, Symbol, End}
 use Rattle.scad_lexer.specs.declared.token.Symbol.TheVariants.{OpenParenthesis, CloseParenthesis, OpenBracket, CloseBracket, Comma, Semicolon}
 use Rattle.scad_lexer.specs.declared.word.Word.TheVariants as word
-use Rattle.scad_lexer.specs.Words.{in_exponent, in_fraction, in_whole, in_text, in_escape, in_comment, after_star, word_from}
+use Rattle.scad_lexer.specs.Words.{word_of_bytes, matches, many_then}
 use Rattle.scad_lexer.specs.Tokens.{SourceWord, Lexes, GivesTokens, ends_once}
 use Rattle.scad_ast.specs.Terms.{NumberTerm, ListTerm, no_terms, and_term, PositionalTerm, StatementTerm, InstanceStatement, AnInstance, ModuleCallTerm, EmptyBody}
 use Rattle.scad_grammar.specs.StatementReads.{program_read, statement_read}
@@ -38,7 +38,7 @@ pieces =
     ∷ record { bytes = 1; word = word.Symbol CloseParenthesis } ∷ record { bytes = 1; word = word.Symbol Semicolon } ∷ []
 
 are_words : AreWords pieces worked_source
-unfolding in_exponent in_fraction in_whole in_text in_escape in_comment after_star word_from
+unfolding word_of_bytes matches many_then
 are_words = (refl, refl, refl, tt, (refl, refl, refl, tt, (refl, refl, refl, tt, (refl, refl, refl, tt, (refl, refl, refl, tt, (refl, refl, refl, tt, (refl, refl, refl, tt, (refl, refl, refl, tt, (refl, refl, refl, tt, (refl, refl, refl, tt, (refl, refl, refl, tt, refl)))))))))))
 
 lexes : Lexes worked_source (GivesTokens tokens)

@@ -11,7 +11,8 @@ use Rattle.scad_lexer.specs.declared.word.Word.{Word}
 use Rattle.scad_lexer.specs.declared.word.Word.TheVariants.{Blank, UnclosedComment, Name, Special, Numeral, NumeralAndLetter, Text, UnclosedText, Symbol}
 use Rattle.scad_lexer.specs.declared.meaning.WordMeaning.{WordMeaning}
 use Rattle.scad_lexer.specs.declared.meaning.WordMeaning.TheVariants.{NoToken, OneToken, BadWord}
-use Rattle.scad_lexer.specs.Words.{is_of_class, is_digit_byte, run_of}
+use Rattle.scad_lexer.specs.Words.{is_digit_byte, run_of}
+use Rattle.scad_lexer.specs.Scanning.{is_of_class}
 use Rattle.scad_lexer.specs.Tokens.{zero_fraction, decimal_from, numeral_or_too_large, numeral_meaning, or_letter, escape_at, with_byte, with_escape, bytes_written, bytes_after_backslash, without_quotes, text_from, word_meaning, place_after, LexOutcome, GivesTokens, FaultAt, tokens_in_front, tokens_at, IsEnd, IsStray, IsFaulty, SourceWord, ReadsWords, IsLexStop, IsPlaceOfByteFrom, StandsAtByte}
 use Rattle.scad_lexer.proofs.Lengths.{some_bytes}
 

@@ -1,5 +1,5 @@
 -- A source has at most one token more than bytes: its end.
-use Rattle.std.proofs.Common.{◌≡◌, ℕ, zero, suc, ◌+◌, ◌≤◌, List, [], ◌∷◌, length, take, drop, Some, None, Option, Result, Ok, Err, ◌⊎◌, inl, inr, sym, subst, arith, IfOk, length-drop}
+use Rattle.std.proofs.Common.{◌≡◌, ℕ, zero, suc, ◌+◌, ◌≤◌, List, [], ◌∷◌, length, take, drop, Some, Result, Ok, Err, ◌⊎◌, inl, inr, sym, subst, arith, IfOk, length-drop, ◌∙◌}
 use Rattle.std.specs.Global.{Vec}
 use Rattle.plain_text.specs.declared.place.Place.{Place}
 use Rattle.text_place.specs.declared.fault.Stop.{Stop}
@@ -7,6 +7,8 @@ use Rattle.scad_lexer.specs.declared.token.Token.{Token}
 use Rattle.scad_lexer.specs.declared.word.Word.{Word}
 use Rattle.scad_lexer.specs.declared.meaning.WordMeaning.{WordMeaning}
 use Rattle.scad_lexer.specs.declared.meaning.WordMeaning.TheVariants.{NoToken, OneToken, BadWord}
+use Rattle.scad_lexer.proofs.Matched.{is_read}
+use Rattle.scad_lexer.proofs.Longest.{no_empty_word}
 use Rattle.scad_lexer.specs.Words.{word_of_bytes}
 use Rattle.scad_lexer.specs.Tokens.{LexOutcome, GivesTokens, FaultAt, tokens_in_front, tokens_at, IsEnd, IsStray, IsFaulty, SourceWord, ReadsWords, LexesFrom, word_meaning, place_after}
 
@@ -31,7 +33,7 @@ fewer n m (FaultAt k p) l h = tt
 
 -- a word has bytes
 pub some_bytes : (text : List ℕ) (n : ℕ) (word : Word) → word_of_bytes (take n text) ≡ Some word → 1 ≤ n
-some_bytes text zero word e = absurd (let f : ◌≡◌ {A = Option Word} None (Some word) = e in cc)
+some_bytes text zero word e = absurd (no_empty_word word (sym (is_read []) ∙ e))
 some_bytes text (suc n) word e = omega arith
 
 reads_few : (pieces : List SourceWord) (p : Place) (text : List ℕ) (o : LexOutcome) → ReadsWords pieces p text o → HasFew (length text) o

@@ -15,9 +15,11 @@ use Rattle.scad_lexer.specs.declared.word.Word.{Word}
 use Rattle.scad_lexer.specs.declared.word.Word.TheVariants.{Symbol as SymbolWord}
 use Rattle.scad_lexer.specs.declared.meaning.WordMeaning.{WordMeaning}
 use Rattle.scad_lexer.specs.declared.meaning.WordMeaning.TheVariants.{NoToken, OneToken, BadWord}
-use Rattle.scad_lexer.specs.Words.{word_from, word_of_bytes, IsLongest, HasNoWord}
+use Rattle.scad_lexer.specs.Words.{word_of_bytes, IsLongest, HasNoWord}
+use Rattle.scad_lexer.specs.Scanning.{word_from}
 use Rattle.scad_lexer.specs.Tokens.{LexOutcome, GivesTokens, FaultAt, tokens_in_front, tokens_at, IsFaultless, IsEnd, IsStray, IsFaulty, SourceWord, ReadsWords, LexesFrom, Lexes, IsLexStopFrom, IsLexStop, Agrees, word_meaning, place_after, AppendsNext}
-use Rattle.scad_lexer.proofs.Longest.{drop_more}
+use Rattle.scad_lexer.proofs.Matched.{is_read}
+use Rattle.scad_lexer.proofs.Longest.{no_empty_word, drop_more}
 use Rattle.scad_lexer.proofs.Scanned.{rest_all}
 
 -- the longest word is one
@@ -33,7 +35,7 @@ no_bytes (suc n) = refl
 
 empty_longest : (text : List ℕ) (n : ℕ) (w : Word) → text ≡ [] → IsLongest text n w → ⊥
 empty_longest text n w e h =
-    let none : word_of_bytes (take n text) ≡ None = ap (λ t. word_of_bytes (take n t)) e ∙ ap word_of_bytes (no_bytes n) in
+    let none : word_of_bytes (take n text) ≡ None = ap (λ t. word_of_bytes (take n t)) e ∙ ap word_of_bytes (no_bytes n) ∙ is_read [] in
     let both : None ≡ Some w = sym none ∙ h.found in
     cc
 
@@ -125,7 +127,7 @@ pub faulty : (p : Place) (text : List ℕ) (n : ℕ) (w : Word) (k : FaultKind) 
 faulty p text n w k m h e = ([], inr (inr (record { length = n; word = w; kind = k; before = m; longest = h; means = sym e; outcome = refl })))
 
 pub word_some : (text : List ℕ) (n : ℕ) (w : Word) → IsLongest text n w → 1 ≤ n
-word_some text zero w h = absurd (let e = h.found in cc)
+word_some text zero w h = absurd (no_empty_word w (sym (is_read []) ∙ h.found))
 word_some text (suc n) w h = omega arith
 
 -- a word that makes no token, and one that makes one
@@ -149,7 +151,7 @@ moved_more p t n h = ap (place_after p) (drop_more t n h)
 pub moved_symbol : (p : Place) (t : List ℕ) (s : Symbol) → IsLongest t 1 (SymbolWord s) → place_after p (take 1 t) ≡ record { line = p.line; column = p.column + 1 }
 unfolding word_from
 moved_symbol p [] s h = absurd (omega (arith, h.within))
-moved_symbol p (b ∷ t) s h = let found : word_from b [] ≡ Some (SymbolWord s) = h.found in grind (arith, nat_tests)
+moved_symbol p (b ∷ t) s h = let found : word_from b [] ≡ Some (SymbolWord s) = sym (is_read (b ∷ [])) ∙ h.found in grind (arith, nat_tests)
 
 -- how long the parts of a cut are
 pub rest_length : (t : List ℕ) (n : ℕ) → n ≤ length t → length (take (length t - n) (drop n t)) + n ≡ length t

@@ -1,7 +1,9 @@
 -- The longest front of a text that is a word.
 use Rattle.std.proofs.Common.{◌≡◌, ℕ, zero, suc, ◌+◌, ◌<◌, ◌≤◌, List, [], ◌∷◌, length, take, drop, get_or, Bool, true, false, cond, Option, Some, None, refl, sym, ap, ◌∙◌, subst, arith, drop-cons, add-one}
 use Rattle.scad_lexer.specs.declared.word.Word.{Word}
-use Rattle.scad_lexer.specs.Words.{run_of, all_bytes, word_where, where_last, with_bytes, more_bytes, one_longer, longest_front, word_of_bytes, word_from, IsLongest, HasNoWord}
+use Rattle.scad_lexer.proofs.Matched.{is_read}
+use Rattle.scad_lexer.specs.Words.{run_of, word_of_bytes, IsLongest, HasNoWord}
+use Rattle.scad_lexer.specs.Scanning.{all_bytes, word_where, where_last, with_bytes, more_bytes, one_longer, longest_front, word_from}
 
 -- what the longest word is
 pub record IsBest (f : List ℕ → Option Word) (t : List ℕ) (w : Word) (n : ℕ) : Type 0 where
@@ -143,20 +145,24 @@ behind_run p (c ∷ t) b w e = go (p c) refl e (behind_run p t b w)
     go true f e ih = ih e
     go false f e ih = let same : c ≡ b = cc in ap p (sym same) ∙ f
 
+-- no bytes are no word
+pub no_empty_word : (o : Word) → None ≡ Some o → ⊥
+no_empty_word o h = cc
+
 -- the words that a text begins with
 pub longest_is : (b : ℕ) (t : List ℕ) (w : Word) (n : ℕ) → longest_front (word_from b) t ≡ Some (w, n) → IsLongest (b ∷ t) (1 + n) w
 longest_is b t w n e =
     let h : IsBest (word_from b) t w n = subst (Best (word_from b) t) e (best (word_from b) t) in
     let one : suc n ≡ 1 + n = omega arith in
-    subst (λ n. IsLongest (b ∷ t) n w) one (record { within = omega (arith, h.within); found = h.found; most = most h })
+    subst (λ n. IsLongest (b ∷ t) n w) one (record { within = omega (arith, h.within); found = is_read (b ∷ take n t) ∙ h.found; most = most h })
   where
     most : IsBest (word_from b) t w n → (m : ℕ) (o : Word) → m ≤ length (b ∷ t) → word_of_bytes (take m (b ∷ t)) ≡ Some o → m ≤ suc n
     most h zero o l g = omega arith
-    most h (suc m) o l g = omega (arith, h.most m o (omega arith) g)
+    most h (suc m) o l g = omega (arith, h.most m o (omega arith) (sym (is_read (b ∷ take m t)) ∙ g))
 
 pub longest_isnt : (b : ℕ) (t : List ℕ) → longest_front (word_from b) t ≡ None → HasNoWord (b ∷ t)
 longest_isnt b t e = none (subst (Best (word_from b) t) e (best (word_from b) t))
   where
     none : Best (word_from b) t None → HasNoWord (b ∷ t)
-    none h zero o l g = absurd (cc)
-    none h (suc m) o l g = h m o (omega arith) g
+    none h zero o l g = absurd (no_empty_word o (sym (is_read []) ∙ g))
+    none h (suc m) o l g = h m o (omega arith) (sym (is_read (b ∷ take m t)) ∙ g)

@@ -1,7 +1,9 @@
 -- What words stand for.
 use Rattle.std.proofs.Common.{◌≡◌, ℕ, zero, suc, ◌+◌, ◌-◌, ◌*◌, ◌<◌, ◌≤◌, List, [], ◌∷◌, ◌++◌, length, take, drop, get_or, Bool, true, false, cond, ◌&&◌, Some, None, Result, Ok, Err, refl, sym, ap, ◌∙◌, arith, nat_eq, append_assoc, append-nil}
 use Rattle.scad_lexer.specs.declared.class.ByteClass.TheVariants.{Byte, Printable}
-use Rattle.scad_lexer.specs.Words.{is_of_class, begins_with, all_bytes}
+use Rattle.scad_lexer.specs.Scanning.{all_bytes, is_of_class, begins_with}
+use Rattle.scad_lexer.specs.Words.{One, Many, matches, is_empty}
+use Rattle.scad_lexer.proofs.Matched.{all_of}
 use Rattle.scad_lexer.specs.Tokens.{decimal_from, zero_fraction, with_byte, escape_of, escape_at, with_escape, bytes_written, bytes_after_backslash}
 use Rattle.scad_lexer.proofs.Longest.{drop_more}
 use Rattle.scad_lexer.proofs.Scanned.{rest_all}
@@ -30,14 +32,27 @@ every_end p [] (suc n) h = refl
 every_end p (b ∷ t) zero h = absurd (omega arith)
 every_end p (b ∷ t) (suc n) h = every_end p t n (omega arith)
 
+pub zero_empty : (t : List ℕ) → length t ≡ 0 → zero_fraction t ≡ true
+unfolding matches
+zero_empty [] h = refl
+zero_empty (c ∷ t) h = absurd (omega arith)
+
 -- a point and what is behind it
+zero_read : (c : ℕ) (t : List ℕ) → zero_fraction (c ∷ t) ≡ (nat_eq c 46 && all_bytes (λ c. nat_eq c 48) t)
+unfolding matches
+zero_read c t = go (nat_eq c 46) (all_of (λ c. nat_eq c 48) t)
+  where
+    go : (e : Bool) → matches (Many (One (λ c. nat_eq c 48))) is_empty t ≡ all_bytes (λ c. nat_eq c 48) t → cond e (matches (Many (One (λ c. nat_eq c 48))) is_empty t) false ≡ (e && all_bytes (λ c. nat_eq c 48) t)
+    go true h = h
+    go false h = refl
+
 pub zero_point : (t : List ℕ) → 1 ≤ length t → (a b : Bool) → begins_with (is_of_class (Byte 46)) t ≡ a → all_bytes (λ c. nat_eq c 48) (take (length t - 1) (drop 1 t)) ≡ b → zero_fraction t ≡ (a && b)
 zero_point [] h a b e g = absurd (omega arith)
-zero_point (c ∷ t) h a b e g = ap (λ x. x && all_bytes (λ c. nat_eq c 48) t) e ∙ ap (λ x. a && x) (ap (all_bytes (λ c. nat_eq c 48)) (sym (rest_all (c ∷ t) 1)) ∙ g)
+zero_point (c ∷ t) h a b e g = zero_read c t ∙ ap (λ x. x && all_bytes (λ c. nat_eq c 48) t) e ∙ ap (λ x. a && x) (ap (all_bytes (λ c. nat_eq c 48)) (sym (rest_all (c ∷ t) 1)) ∙ g)
 
 pub zero_point_none : (t : List ℕ) → 1 ≤ length t → begins_with (is_of_class (Byte 46)) t ≡ false → zero_fraction t ≡ false
 zero_point_none [] h e = absurd (omega arith)
-zero_point_none (c ∷ t) h e = ap (λ x. x && all_bytes (λ c. nat_eq c 48) t) e
+zero_point_none (c ∷ t) h e = zero_read c t ∙ ap (λ x. x && all_bytes (λ c. nat_eq c 48) t) e
 
 -- one byte of a text's inside
 pub step_escape : (t : List ℕ) (b : ℕ) → begins_with (is_of_class (Byte 92)) t ≡ true → Some b ≡ escape_at (take (length t - 1) (drop 1 t)) → bytes_written t ≡ with_byte b 2 (bytes_written (drop 2 t))

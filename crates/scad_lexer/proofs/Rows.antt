@@ -10,7 +10,8 @@ use Rattle.scad_lexer.specs.declared.token.Symbol.TheVariants.{OpenParenthesis, 
 use Rattle.scad_lexer.specs.declared.word.Word.{Word}
 use Rattle.scad_lexer.specs.declared.meaning.WordMeaning.{WordMeaning}
 use Rattle.scad_lexer.specs.declared.meaning.WordMeaning.TheVariants.{NoToken, OneToken, BadWord}
-use Rattle.scad_lexer.specs.Words.{longest_front, word_of_bytes, in_exponent, in_fraction, in_whole, in_text, in_escape, in_comment, after_star, word_from, IsLongest}
+use Rattle.scad_lexer.specs.Words.{word_of_bytes, matches, many_then, IsLongest}
+use Rattle.scad_lexer.specs.Scanning.{longest_front}
 use Rattle.scad_lexer.specs.Tokens.{word_meaning, place_after, bytes_written, bytes_after_backslash, LexOutcome, GivesTokens, FaultAt, tokens_in_front, tokens_at, IsFaultless, LexesFrom, Lexes}
 use Rattle.scad_lexer.proofs.Longest.{best, Best}
 
@@ -100,7 +101,7 @@ tokens =
     ∷ []
 
 tokens_lexed : AreLexed tokens
-unfolding longest_front in_exponent in_fraction in_whole in_text in_escape in_comment after_star word_from bytes_written bytes_after_backslash
+unfolding longest_front word_of_bytes matches many_then bytes_written bytes_after_backslash
 tokens_lexed = (refl, (refl, (refl, (refl, (refl, (refl, (refl, tt)))))))
 
 tokens_given : AreGiven tokens
@@ -120,7 +121,7 @@ bad_numerals =
     ∷ []
 
 bad_numerals_lexed : AreLexed bad_numerals
-unfolding longest_front in_exponent in_fraction in_whole in_text in_escape in_comment after_star word_from bytes_written bytes_after_backslash
+unfolding longest_front word_of_bytes matches many_then bytes_written bytes_after_backslash
 bad_numerals_lexed = (refl, (refl, (refl, (refl, (refl, (refl, (refl, (refl, tt))))))))
 
 bad_numerals_given : AreGiven bad_numerals
@@ -136,7 +137,7 @@ bad_texts =
     ∷ []
 
 bad_texts_lexed : AreLexed bad_texts
-unfolding longest_front in_exponent in_fraction in_whole in_text in_escape in_comment after_star word_from bytes_written bytes_after_backslash
+unfolding longest_front word_of_bytes matches many_then bytes_written bytes_after_backslash
 bad_texts_lexed = (refl, (refl, (refl, (refl, tt))))
 
 bad_texts_given : AreGiven bad_texts
@@ -153,7 +154,7 @@ bad_bytes =
     ∷ []
 
 bad_bytes_lexed : AreLexed bad_bytes
-unfolding longest_front in_exponent in_fraction in_whole in_text in_escape in_comment after_star word_from bytes_written bytes_after_backslash
+unfolding longest_front word_of_bytes matches many_then bytes_written bytes_after_backslash
 bad_bytes_lexed = (refl, (refl, (refl, (refl, (refl, tt)))))
 
 bad_bytes_given : AreGiven bad_bytes

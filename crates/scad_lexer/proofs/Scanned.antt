@@ -7,8 +7,10 @@ use Rattle.scad_lexer.specs.declared.token.Symbol.{Symbol}
 use Rattle.scad_lexer.specs.declared.token.Symbol.TheVariants.{Dot, Divide}
 use Rattle.scad_lexer.specs.declared.word.Word.{Word}
 use Rattle.scad_lexer.specs.declared.word.Word.TheVariants.{Blank, UnclosedComment, Name, Special, Numeral, NumeralAndLetter, Text, UnclosedText, Symbol as SymbolWord}
-use Rattle.scad_lexer.specs.Words.{is_of_class, is_digit_byte, is_letter_byte, is_blank_byte, is_name_byte, begins_with, run_of, all_bytes, word_where, where_last, with_bytes, more_bytes, one_longer, longest_front, in_whole, in_fraction, number_end, after_e, after_sign, in_exponent, after_point, after_dollar, after_slash, in_comment, after_star, in_text, in_escape, one_byte_symbol, two_byte_symbol, two_byte_symbol_from, symbol_word, symbol_of, word_from, IsLongest, HasNoWord}
-use Rattle.scad_lexer.proofs.Longest.{longest_end, longest_step, longest_taken, longest_stop, longest_alone, longest_some, longest_same, longest_every, run_then, behind_run, drop_more, longest_is, longest_isnt}
+use Rattle.scad_lexer.specs.Words.{is_digit_byte, is_letter_byte, is_blank_byte, is_name_byte, run_of, IsLongest, HasNoWord}
+use Rattle.scad_lexer.specs.Scanning.{all_bytes, is_of_class, begins_with, word_where, where_last, with_bytes, more_bytes, one_longer, longest_front, in_whole, in_fraction, number_end, after_e, after_sign, in_exponent, after_point, after_dollar, after_slash, in_comment, after_star, in_text, in_escape, one_byte_symbol, two_byte_symbol, two_byte_symbol_from, symbol_word, symbol_of, word_from}
+use Rattle.scad_lexer.proofs.Matched.{is_read}
+use Rattle.scad_lexer.proofs.Longest.{no_empty_word, longest_end, longest_step, longest_taken, longest_stop, longest_alone, longest_some, longest_same, longest_every, run_then, behind_run, drop_more, longest_is, longest_isnt}
 
 not_equal : (b c : ℕ) → (b ≡ c → ⊥) → nat_eq b c ≡ false
 not_equal b c h = elim (eqb_tells b c) [ inl p ↦ absurd (h p.1) | inr p ↦ p.0 ]
@@ -453,6 +455,6 @@ found_none t None h e = subst HasNoWord (text_parts t h) (longest_isnt (get_or t
 found_none t (Some p) h e = tt
 
 pub no_word : (t : List ℕ) → length t ≡ 0 → HasNoWord t
-no_word [] h zero o l g = absurd (cc)
+no_word [] h zero o l g = absurd (no_empty_word o (sym (is_read []) ∙ g))
 no_word [] h (suc m) o l g = absurd (omega arith)
 no_word (b ∷ t) h m o l g = absurd (omega arith)

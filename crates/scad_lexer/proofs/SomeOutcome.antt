@@ -8,7 +8,8 @@ use Rattle.scad_lexer.specs.declared.token.TokenKind.TheVariants.{End}
 use Rattle.scad_lexer.specs.declared.word.Word.{Word}
 use Rattle.scad_lexer.specs.declared.meaning.WordMeaning.{WordMeaning}
 use Rattle.scad_lexer.specs.declared.meaning.WordMeaning.TheVariants.{NoToken, OneToken, BadWord}
-use Rattle.scad_lexer.specs.Words.{word_of_bytes, longest_front, IsLongest, HasNoWord}
+use Rattle.scad_lexer.specs.Words.{word_of_bytes, IsLongest, HasNoWord}
+use Rattle.scad_lexer.specs.Scanning.{longest_front}
 use Rattle.scad_lexer.specs.Tokens.{LexOutcome, GivesTokens, FaultAt, tokens_in_front, tokens_at, IsFaultless, LexesFrom, Lexes, word_meaning, place_after, ends_once}
 use Rattle.scad_lexer.proofs.EndsOnce.{reads_end}
 use Rattle.scad_lexer.proofs.Lexing.{stray, faulty, word_some}

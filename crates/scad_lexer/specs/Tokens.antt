@@ -17,7 +17,7 @@ use Rattle.scad_lexer.specs.declared.word.Word.{Word}
 use Rattle.scad_lexer.specs.declared.word.Word.TheVariants.{Blank, UnclosedComment, Name, Special, Numeral, NumeralAndLetter, Text, UnclosedText, Symbol}
 use Rattle.scad_lexer.specs.declared.meaning.WordMeaning.{WordMeaning}
 use Rattle.scad_lexer.specs.declared.meaning.WordMeaning.TheVariants.{NoToken, OneToken, BadWord}
-use Rattle.scad_lexer.specs.Words.{is_digit_byte, run_of, all_bytes, IsLongest, HasNoWord}
+use Rattle.scad_lexer.specs.Words.{is_digit_byte, run_of, Empty, One, Then, Either, Many, matches, is_empty, literal, IsLongest, HasNoWord}
 use Rattle.plain_text.specs.Decimals.{least_too_large}
 
 -- the reserved name that these bytes are
@@ -43,8 +43,7 @@ decimal_from value (byte ∷ bytes) = decimal_from (value * 10 + (byte - 48)) by
 
 -- behind the whole part of a numeral: nothing, or a point and zeros
 abbrev pub zero_fraction : List ℕ → Bool
-zero_fraction [] = true
-zero_fraction (byte ∷ bytes) = nat_eq byte 46 && all_bytes (λ c. nat_eq c 48) bytes
+zero_fraction bytes = matches (Either Empty (Then (literal (codes ".")) (Many (One (λ c. nat_eq c 48))))) is_empty bytes
 
 -- a number, unless it is too large
 abbrev pub numeral_or_too_large : ℕ → WordMeaning

@@ -1,7 +1,8 @@
 //! Classes of bytes.
 
 ghost use Rattle.std.specs.Prelude.{◌≡◌, ◌≤◌, IsTrue, length};
-ghost use Rattle.scad_lexer.specs.Words.{is_of_class, run_of, begins_with};
+ghost use Rattle.scad_lexer.specs.Words.{run_of};
+ghost use Rattle.scad_lexer.specs.Scanning.{is_of_class, begins_with};
 
 /// A class of bytes.
 #[derive(Clone, Copy, Debug, PartialEq, Eq)]

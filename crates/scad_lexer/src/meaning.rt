@@ -2,7 +2,7 @@
 
 ghost use Rattle.std.specs.Prelude.{◌≡◌, ◌-◌, ◌^◌, ◌<◌, ◌≤◌, length, IfOk, IfErr, IfSome, IfNone, MatchOption, take, drop, nat_eq, MatchResult, Ok, Err};
 ghost use Rattle.std.specs.Str.{bytes_eq};
-ghost use Rattle.scad_lexer.specs.Words.{all_bytes};
+ghost use Rattle.scad_lexer.specs.Scanning.{all_bytes};
 ghost use Rattle.scad_lexer.specs.Tokens.{reserved_of, escape_at, with_byte, zero_fraction, decimal_from, numeral_meaning, or_letter, bytes_written, without_quotes, text_from, word_meaning, name_or, IsFaultWithin};
 
 use crate::class::ByteClass;

@@ -2,7 +2,8 @@
 
 ghost use Rattle.std.specs.Prelude.{◌≡◌, ℕ, ◌+◌, ◌≤◌, ◌<◌, ◌^◌, length, false, not, nat_eq, ◌&&◌, Some, IfSome, IfNone};
 ghost use Rattle.scad_lexer.specs.declared.class.ByteClass.TheVariants.{BlankByte, Letter, Digit};
-ghost use Rattle.scad_lexer.specs.Words.{is_of_class, longest_front, more_bytes, word_from, in_whole, in_fraction, number_end, after_e, in_exponent, after_point, after_slash, after_dollar, in_text, in_comment, one_byte_symbol, two_byte_symbol, two_byte_symbol_from, symbol_of, begins_with, IsLongest, HasNoWord};
+ghost use Rattle.scad_lexer.specs.Words.{IsLongest, HasNoWord};
+ghost use Rattle.scad_lexer.specs.Scanning.{is_of_class, longest_front, more_bytes, word_from, in_whole, in_fraction, number_end, after_e, in_exponent, after_point, after_slash, after_dollar, in_text, in_comment, one_byte_symbol, two_byte_symbol, two_byte_symbol_from, symbol_of, begins_with};
 
 use crate::class::ByteClass;
 use crate::token::Symbol;

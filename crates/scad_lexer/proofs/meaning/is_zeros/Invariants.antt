@@ -1,5 +1,5 @@
 use Rattle.std.proofs.Common.{◌≡◌, drop, nat_eq}
-use Rattle.scad_lexer.specs.Words.{all_bytes}
+use Rattle.scad_lexer.specs.Scanning.{all_bytes}
 use Rattle.scad_lexer.proofs.meaning.is_zeros.Given as goal
 
 abbrev pub invariant-loop-byte : goal.invariant-loop-byte

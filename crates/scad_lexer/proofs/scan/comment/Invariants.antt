@@ -1,5 +1,5 @@
 use Rattle.std.proofs.Common.{◌≡◌, ◌-◌, ◌≤◌, length, drop}
-use Rattle.scad_lexer.specs.Words.{longest_front, in_comment, more_bytes}
+use Rattle.scad_lexer.specs.Scanning.{longest_front, in_comment, more_bytes}
 use Rattle.scad_lexer.proofs.Scanned.{comment_state}
 use Rattle.scad_lexer.proofs.scan.comment.Given as goal
 

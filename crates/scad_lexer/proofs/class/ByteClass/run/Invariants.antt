@@ -1,5 +1,6 @@
 use Rattle.std.proofs.Common.{◌≡◌, ◌+◌, ◌-◌, ◌≤◌, length, drop}
-use Rattle.scad_lexer.specs.Words.{is_of_class, run_of}
+use Rattle.scad_lexer.specs.Words.{run_of}
+use Rattle.scad_lexer.specs.Scanning.{is_of_class}
 use Rattle.scad_lexer.proofs.class.ByteClass.run.Given as goal
 
 abbrev pub invariant-loop-n : goal.invariant-loop-n
