@@ -25,7 +25,10 @@ pub trait ThreadBooks: Books<
     Misses: Send + Sync,
     Kept: Send + Sync,
     Heavy: Send + Sync,
-> + FlightBooks<Begun: Send + Sync, Held: Send + Sync> + Send + Sync {}
+>
+    + FlightBooks<Begun: Send + Sync, Held: Send + Sync>
+    + Send
+    + Sync {}
 
 /// The books of these six ledgers, the last two of claims. Only who opens a memo knows the ledgers one by one.
 pub struct FlightLedgers<H, M, K, E, Begins, Holds> {

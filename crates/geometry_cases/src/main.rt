@@ -49,11 +49,7 @@ use std::alloc::Global;
 use std::process::ExitCode;
 
 // The answers of phrases that build.
-fn put_built(
-    alloc: Global,
-    out: &mut Vec<u8>,
-    text: &[u8],
-) -> Result<(), CaseStop> {
+fn put_built(alloc: Global, out: &mut Vec<u8>, text: &[u8]) -> Result<(), CaseStop> {
     let mut bench = Bench::new(alloc);
     let from = out.len();
     for phrase in &phrases_of(alloc, text)? {
@@ -65,11 +61,7 @@ fn put_built(
 }
 
 // The answer of a question about numbers, or of phrases that build.
-fn put_answer(
-    alloc: Global,
-    out: &mut Vec<u8>,
-    case: &[u8],
-) -> Result<(), CaseStop> {
+fn put_answer(alloc: Global, out: &mut Vec<u8>, case: &[u8]) -> Result<(), CaseStop> {
     let text = unfolded(alloc, case)?;
     let (asked, rest) = cut(&text);
     if asked == b"build".as_slice() {

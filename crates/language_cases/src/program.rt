@@ -206,7 +206,11 @@ fn put_binders(alloc: Global, out: &mut Vec<u8>, binders: &[Binder]) -> Result<(
     Ok(())
 }
 
-fn put_modifiers(alloc: Global, out: &mut Vec<u8>, modifiers: &[PlacedModifier]) -> Result<(), NoMemory> {
+fn put_modifiers(
+    alloc: Global,
+    out: &mut Vec<u8>,
+    modifiers: &[PlacedModifier],
+) -> Result<(), NoMemory> {
     for placed in modifiers {
         let text = match placed.modifier {
             Modifier::Disable => b"*",

@@ -45,7 +45,11 @@ pub(crate) fn instance_from(modifiers: PlacedModifiers, core: Core) -> Instance
         Some(first) => first.place,
         None => core.place(),
     };
-    Instance { place, modifiers, core }
+    Instance {
+        place,
+        modifiers,
+        core,
+    }
 }
 
 /// The condition of an `if`: an expression in parentheses.

@@ -18,11 +18,7 @@ use std::alloc::Global;
 use std::process::ExitCode;
 
 // The answer of phrases that put trees.
-fn put_answer(
-    alloc: Global,
-    out: &mut Vec<u8>,
-    case: &[u8],
-) -> Result<(), CaseStop> {
+fn put_answer(alloc: Global, out: &mut Vec<u8>, case: &[u8]) -> Result<(), CaseStop> {
     let text = unfolded(alloc, case)?;
     let (asked, rest) = cut(&text);
     if asked != b"tree".as_slice() {
