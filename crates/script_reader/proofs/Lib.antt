@@ -1,4 +1,5 @@
 pub mod CutLaws
+pub mod CommandWords
 pub mod KnownCommands
 pub mod Places
 pub mod LineRead

@@ -1,14 +1,15 @@
 -- Bytes have one first line, and a line has one reading.
-use Rattle.std.proofs.Common.{◌≡◌, ◌≢◌, ◌⊎◌, ⊎_elim, ℕ, ◌<◌, List, [], ◌∷◌, ◌++◌, length, get_or, refl, sym, ap, ap₂, ◌∙◌, subst, arith, append_assoc, length-append, codes}
+use Rattle.std.proofs.Common.{◌≡◌, ◌≢◌, ◌⊎◌, ⊎_elim, ℕ, ◌<◌, List, [], ◌∷◌, ◌++◌, length, refl, sym, ap, ap₂, ◌∙◌, subst, arith, append_assoc, length-append}
 use Rattle.std.specs.Prelude.{All}
 use Rattle.std.specs.Str.Parse.{digits_value}
-use Rattle.std.proofs.lemmas.List.{append_cancel_left, append_cancel_right}
+use Rattle.std.proofs.lemmas.List.{append_cancel_right}
 use Rattle.std.proofs.lemmas.List.Elements.{All-same}
 use Rattle.script_reader.specs.declared.script.Command.{Command}
-use Rattle.script_reader.specs.declared.script.Command.TheVariants.{Put, Set, Cut, Show, Export, Bad}
 use Rattle.script_reader.specs.Lines.{IsTrimmed, IsFirstLine}
-use Rattle.script_reader.specs.Spelling.{IsTail, IsEditWords, IsKnownCommand, IsCommand, BeginsWithName}
+use Rattle.script_reader.specs.Spelling.{IsTail, IsKnownCommand, IsCommand, BeginsWithName}
+use Rattle.script_reader.specs.Reading.{IsEditOf, IsRange}
 use Rattle.script_reader.specs.Scripts.{ClientLine, IsClientLine}
+use Rattle.script_reader.proofs.CommandWords.{Further, edit, range, nothing, IsBehindWord, listed, by_word}
 use Rattle.script_reader.proofs.CutLaws.{one_cut, no_cut, one_space, name_plain, digits_plain, tail_ends}
 use Rattle.plain_text.specs.Decimals.{IsNumeralOf}
 use Rattle.plain_text.specs.Separators.{space, newline}
@@ -71,76 +72,29 @@ one_text tail text text' h g =
 same_value : (digits digits' : List ℕ) (m n : ℕ) → digits ≡ digits' → IsNumeralOf digits m → IsNumeralOf digits' n → m ≡ n
 same_value digits digits' m n e h g = h.1 ∙ ap (digits_value 10) e ∙ sym g.1
 
-one_edit : (word words : List ℕ) (m n : ℕ) (text text' : List ℕ) → IsEditWords word words m text → IsEditWords word words n text' → (m ≡ n) × (text ≡ text')
-one_edit word words m n text text' h g =
-    let behind : h.0 ++ h.1 ≡ g.0 ++ g.1 = append_cancel_left word (h.0 ++ h.1) (g.0 ++ g.1) (sym (append_assoc word h.0 h.1) ∙ sym h.2 ∙ g.2 ∙ append_assoc word g.0 g.1) in
-    let cut = one_space h.0 g.0 h.1 g.1 (digits_plain h.0 m h.3) (digits_plain g.0 n g.3) (tail_ends h.1 text h.4) (tail_ends g.1 text' g.4) behind in
+one_edit : (bytes : List ℕ) (m n : ℕ) (text text' : List ℕ) → IsEditOf bytes m text → IsEditOf bytes n text' → (m ≡ n) × (text ≡ text')
+one_edit bytes m n text text' h g =
+    let cut = one_space h.0 g.0 h.1 g.1 (digits_plain h.0 m h.3) (digits_plain g.0 n g.3) (tail_ends h.1 text h.4) (tail_ends g.1 text' g.4) (sym h.2 ∙ g.2) in
     (same_value h.0 g.0 m n cut.0 h.3 g.3, one_text g.1 text text' (subst (λ (t : List ℕ). IsTail t text) cut.1 h.4) g.4)
 
-regrouped : (word a b : List ℕ) → word ++ a ++ space ++ b ≡ word ++ (a ++ 32 ∷ b)
-regrouped word a b = simp append_assoc
+range_cut : (bytes a b : List ℕ) → bytes ≡ a ++ space ++ b → bytes ≡ a ++ 32 ∷ b
+range_cut bytes a b e = e ∙ append_assoc a space b
 
-one_range : (words : List ℕ) (from upto from' upto' : ℕ) → IsKnownCommand words (Cut from upto) → IsKnownCommand words (Cut from' upto') → (from ≡ from') × (upto ≡ upto')
-one_range words from upto from' upto' h g =
-    let behind : h.0 ++ 32 ∷ h.1 ≡ g.0 ++ 32 ∷ g.1 = append_cancel_left (codes "cut ") (h.0 ++ 32 ∷ h.1) (g.0 ++ 32 ∷ g.1) (sym (regrouped (codes "cut ") h.0 h.1) ∙ sym h.2 ∙ g.2 ∙ regrouped (codes "cut ") g.0 g.1) in
+one_range : (bytes : List ℕ) (from upto from' upto' : ℕ) → IsRange bytes from upto → IsRange bytes from' upto' → (from ≡ from') × (upto ≡ upto')
+one_range bytes from upto from' upto' h g =
+    let behind : h.0 ++ 32 ∷ h.1 ≡ g.0 ++ 32 ∷ g.1 = sym (range_cut bytes h.0 h.1 h.2) ∙ range_cut bytes g.0 g.1 g.2 in
     let cut = one_cut 32 h.0 g.0 h.1 g.1 (digits_plain h.0 from h.3) (digits_plain g.0 from' g.3) behind in
     (same_value h.0 g.0 from from' cut.0 h.3 g.3, same_value h.1 g.1 upto upto' cut.1 h.4 g.4)
 
--- a number that tells the commands apart
-abbrev letter_of : Command → ℕ
-letter_of (Put line text) = 112
-letter_of (Set line text) = 115
-letter_of (Cut from upto) = 99
-letter_of Show = 115
-letter_of Export = 101
-letter_of Bad = 0
-
-first_is : (words : List ℕ) (c : Command) → IsKnownCommand words c → get_or words 0 0 ≡ letter_of c
-first_is words (Put line text) h = ap (λ (l : List ℕ). get_or l 0 0) h.2
-first_is words (Set line text) h = ap (λ (l : List ℕ). get_or l 0 0) h.2
-first_is words (Cut from upto) h = ap (λ (l : List ℕ). get_or l 0 0) h.2
-first_is words Show h = ap (λ (l : List ℕ). get_or l 0 0) h
-first_is words Export h = ap (λ (l : List ℕ). get_or l 0 0) h
-first_is words Bad h = absurd h
-
-set_is_not_show : (words : List ℕ) (line : ℕ) (text : List ℕ) → IsKnownCommand words (Set line text) → IsKnownCommand words Show → ⊥
-set_is_not_show words line text h g = let letter : 101 ≡ 104 = ap (λ (l : List ℕ). get_or l 1 0) (sym h.2 ∙ g) in absurd (omega (arith, letter))
-
-letters : (words : List ℕ) (c d : Command) → IsKnownCommand words c → IsKnownCommand words d → letter_of c ≡ letter_of d
-letters words c d h g = sym (first_is words c h) ∙ first_is words d g
+one_behind : (further : Further) (rest : List ℕ) (c d : Command) → IsBehindWord further rest c → IsBehindWord further rest d → c ≡ d
+one_behind (edit make) rest c d h g = let e = one_edit rest h.0 g.0 h.1 g.1 h.2 g.2 in h.3 ∙ ap₂ make e.0 e.1 ∙ sym g.3
+one_behind (range make) rest c d h g = let e = one_range rest h.0 h.1 g.0 g.1 h.2 g.2 in h.3 ∙ ap₂ make e.0 e.1 ∙ sym g.3
+one_behind (nothing command) rest c d h g = h.1 ∙ sym g.1
 
 pub one_known : (words : List ℕ) (c d : Command) → IsKnownCommand words c → IsKnownCommand words d → c ≡ d
-one_known words (Put m t) (Put n u) h g = let e = one_edit (codes "put ") words m n t u h g in ap₂ Put e.0 e.1
-one_known words (Set m t) (Set n u) h g = let e = one_edit (codes "set ") words m n t u h g in ap₂ Set e.0 e.1
-one_known words (Cut a b) (Cut a' b') h g = let e = one_range words a b a' b' h g in ap₂ Cut e.0 e.1
-one_known words Show Show h g = refl
-one_known words Export Export h g = refl
-one_known words (Set m t) Show h g = absurd (set_is_not_show words m t h g)
-one_known words Show (Set m t) h g = absurd (set_is_not_show words m t g h)
-one_known words (Put m t) (Set n u) h g = let e : 112 ≡ 115 = letters words (Put m t) (Set n u) h g in absurd (omega (arith, e))
-one_known words (Put m t) (Cut a b) h g = let e : 112 ≡ 99 = letters words (Put m t) (Cut a b) h g in absurd (omega (arith, e))
-one_known words (Put m t) Show h g = let e : 112 ≡ 115 = letters words (Put m t) Show h g in absurd (omega (arith, e))
-one_known words (Put m t) Export h g = let e : 112 ≡ 101 = letters words (Put m t) Export h g in absurd (omega (arith, e))
-one_known words (Set m t) (Put n u) h g = let e : 115 ≡ 112 = letters words (Set m t) (Put n u) h g in absurd (omega (arith, e))
-one_known words (Set m t) (Cut a b) h g = let e : 115 ≡ 99 = letters words (Set m t) (Cut a b) h g in absurd (omega (arith, e))
-one_known words (Set m t) Export h g = let e : 115 ≡ 101 = letters words (Set m t) Export h g in absurd (omega (arith, e))
-one_known words (Cut a b) (Put m t) h g = let e : 99 ≡ 112 = letters words (Cut a b) (Put m t) h g in absurd (omega (arith, e))
-one_known words (Cut a b) (Set m t) h g = let e : 99 ≡ 115 = letters words (Cut a b) (Set m t) h g in absurd (omega (arith, e))
-one_known words (Cut a b) Show h g = let e : 99 ≡ 115 = letters words (Cut a b) Show h g in absurd (omega (arith, e))
-one_known words (Cut a b) Export h g = let e : 99 ≡ 101 = letters words (Cut a b) Export h g in absurd (omega (arith, e))
-one_known words Show (Put m t) h g = let e : 115 ≡ 112 = letters words Show (Put m t) h g in absurd (omega (arith, e))
-one_known words Show (Cut a b) h g = let e : 115 ≡ 99 = letters words Show (Cut a b) h g in absurd (omega (arith, e))
-one_known words Show Export h g = let e : 115 ≡ 101 = letters words Show Export h g in absurd (omega (arith, e))
-one_known words Export (Put m t) h g = let e : 101 ≡ 112 = letters words Export (Put m t) h g in absurd (omega (arith, e))
-one_known words Export (Set m t) h g = let e : 101 ≡ 115 = letters words Export (Set m t) h g in absurd (omega (arith, e))
-one_known words Export (Cut a b) h g = let e : 101 ≡ 99 = letters words Export (Cut a b) h g in absurd (omega (arith, e))
-one_known words Export Show h g = let e : 101 ≡ 115 = letters words Export Show h g in absurd (omega (arith, e))
-one_known words Bad d h g = absurd h
-one_known words (Put m t) Bad h g = absurd g
-one_known words (Set m t) Bad h g = absurd g
-one_known words (Cut a b) Bad h g = absurd g
-one_known words Show Bad h g = absurd g
-one_known words Export Bad h g = absurd g
+one_known words c d h g =
+    let l = listed words c h in
+    one_behind l.row.further l.rest c d l.behind (by_word l.place l.row words l.rest d l.at l.begins g)
 
 pub one_command : (tail : List ℕ) (c d : Command) → IsCommand tail c → IsCommand tail d → c ≡ d
 one_command tail c d h g =

@@ -11,6 +11,7 @@ use Rattle.script_reader.specs.Spelling.{IsNameByte, IsName, IsKnownCommand, IsC
 use Rattle.script_reader.specs.Scripts.{ClientLine, IsSoundLine, IsScript, IsScriptFault}
 use Rattle.script_reader.specs.Reading.{IsEditOf}
 use Rattle.script_reader.proofs.CutLaws.{no_cut, one_space, digits_plain, tail_ends}
+use Rattle.script_reader.proofs.CommandWords.{nothing, by_word}
 use Rattle.script_reader.proofs.KnownCommands.{put_known}
 use Rattle.plain_text.specs.Decimals.{IsNumeralOf}
 use Rattle.plain_text.specs.Separators.{space}
@@ -122,12 +123,8 @@ eight_digits_are_bad = put_bad_by (codes "00000007 x") too_many_digits
 
 -- a space behind a whole command
 no_show : (known : Command) → IsKnownCommand (codes "show ") known → ⊥
-no_show (Put line text) h = let letter : 115 ≡ 112 = ap (λ (l : List ℕ). get_or l 0 0) h.2 in absurd (omega (arith, letter))
-no_show (Set line text) h = let letter : 104 ≡ 101 = ap (λ (l : List ℕ). get_or l 1 0) h.2 in absurd (omega (arith, letter))
-no_show (Cut from upto) h = let letter : 115 ≡ 99 = ap (λ (l : List ℕ). get_or l 0 0) h.2 in absurd (omega (arith, letter))
-no_show Show h = let count : 5 ≡ 4 = ap length h in absurd (omega (arith, count))
-no_show Export h = let letter : 115 ≡ 101 = ap (λ (l : List ℕ). get_or l 0 0) h in absurd (omega (arith, letter))
-no_show Bad h = h
+no_show known h =
+    let behind = by_word 3 (record { word = codes "show"; further = nothing Show }) (codes "show ") space known refl refl h in cc
 
 space_behind_is_bad : IsCommand (codes " show ") Bad
 space_behind_is_bad = bad_by (codes "show ") no_show
