@@ -42,6 +42,7 @@ unfolding word_of_bytes matches many_then
 are_words = (refl, refl, refl, tt, (refl, refl, refl, tt, (refl, refl, refl, tt, (refl, refl, refl, tt, (refl, refl, refl, tt, (refl, refl, refl, tt, (refl, refl, refl, tt, (refl, refl, refl, tt, (refl, refl, refl, tt, (refl, refl, refl, tt, (refl, refl, refl, tt, refl)))))))))))
 
 lexes : Lexes worked_source (GivesTokens tokens)
+unfolding matches
 lexes = (pieces, words_read pieces (at 1) worked_source are_words)
 
 abbrev pub program : List StatementTerm

@@ -131,11 +131,11 @@ word_some text zero w h = absurd (no_empty_word w (sym (is_read []) ∙ h.found)
 word_some text (suc n) w h = omega arith
 
 -- a word that makes no token, and one that makes one
-pub appends_none : (text : List ℕ) (ts : List Token) (p : Place) (n : ℕ) (w : Word) → IsLongest text n w → NoToken ≡ word_meaning w (take n text) → AppendsNext ts ts p text n
-appends_none text ts p n w h e = record { word = w; longest = h; sound = subst IsFaultless e tt; appended = sym (append-nil ts) ∙ ap (λ m. ts ++ tokens_at p m) e; some = word_some text n w h }
+pub adds_none : (text : List ℕ) (ts : List Token) (p : Place) (n : ℕ) (w : Word) → IsLongest text n w → NoToken ≡ word_meaning w (take n text) → AppendsNext ts ts p text n
+adds_none text ts p n w h e = record { word = w; longest = h; sound = subst IsFaultless e tt; appended = sym (append-nil ts) ∙ ap (λ m. ts ++ tokens_at p m) e; some = word_some text n w h }
 
-pub appends_one : (text : List ℕ) (ts us : List Token) (p : Place) (n : ℕ) (w : Word) (kind : TokenKind) → IsLongest text n w → OneToken kind ≡ word_meaning w (take n text) → us ≡ ts ++ record { kind = kind; place = p } ∷ [] → AppendsNext ts us p text n
-appends_one text ts us p n w kind h e made = record { word = w; longest = h; sound = subst IsFaultless e tt; appended = made ∙ ap (λ m. ts ++ tokens_at p m) e; some = word_some text n w h }
+pub adds_one : (text : List ℕ) (ts us : List Token) (p : Place) (n : ℕ) (w : Word) (kind : TokenKind) → IsLongest text n w → OneToken kind ≡ word_meaning w (take n text) → us ≡ ts ++ record { kind = kind; place = p } ∷ [] → AppendsNext ts us p text n
+adds_one text ts us p n w kind h e made = record { word = w; longest = h; sound = subst IsFaultless e tt; appended = made ∙ ap (λ m. ts ++ tokens_at p m) e; some = word_some text n w h }
 
 pub taken_some : (text : List ℕ) (n : ℕ) (w : Word) → IsLongest text n w → 1 ≤ length (take n text)
 taken_some text n w h = omega (arith, word_some text n w h, length-take-le n text h.within)

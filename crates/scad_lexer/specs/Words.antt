@@ -26,7 +26,7 @@ abbrev pub run_of : (ℕ → Bool) → List ℕ → ℕ
 run_of test [] = 0
 run_of test (byte ∷ bytes) = cond (test byte) (suc (run_of test bytes)) 0
 
--- a regular expression: no byte, a byte that is so, a sequence, a choice, a repetition, and no byte where another doesn't match
+-- a regular expression: no byte, a byte that is so, a sequence, a choice, a repetition, and where another doesn't match
 pub data Expression : Type 0 where
   Empty : Expression
   One : (ℕ → Bool) → Expression
@@ -35,12 +35,12 @@ pub data Expression : Type 0 where
   Many : Expression → Expression
   Unless : Expression → Expression
 
--- a step at most so many times, and then what goes on
+-- a step, at most this many times, and then what `rest` tells of what is left
 unfoldable pub many_then : ℕ → ((List ℕ → Bool) → List ℕ → Bool) → (List ℕ → Bool) → List ℕ → Bool
 many_then zero step rest bytes = rest bytes
 many_then (suc n) step rest bytes = rest bytes || step (many_then n step rest) bytes
 
--- whether the expression matches bytes at the front, behind which the rest is so; it repeats at most as often as there are bytes
+-- whether the expression matches the bytes up to a place, behind which `rest` holds; it repeats at most once for each byte
 unfoldable pub matches : Expression → (List ℕ → Bool) → List ℕ → Bool
 matches Empty rest bytes = rest bytes
 matches (One test) rest [] = false

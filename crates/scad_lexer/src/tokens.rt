@@ -78,7 +78,7 @@ fn read_tokens(alloc: Global, text: &[u8]) -> Result<Vec<Token>, Stop>
 }
 
 // Appends the token that the longest word of a text makes, if it makes one.
-#[tactic(auto, using(crate::proofs::Lexing::taken_some, crate::proofs::Lexing::appends_none, crate::proofs::Lexing::appends_one))]
+#[tactic(auto, using(crate::proofs::Lexing::taken_some, crate::proofs::Lexing::adds_none, crate::proofs::Lexing::adds_one))]
 fn push_word(
     alloc: Global,
     tokens: &mut Vec<Token>,

@@ -5,7 +5,7 @@ use Rattle.text_place.specs.declared.fault.FaultKind.TheVariants.{BadCharacter}
 use Rattle.scad_lexer.specs.declared.token.TokenKind.TheVariants.{Symbol}
 use Rattle.scad_lexer.specs.declared.word.Word.TheVariants.{Blank, Symbol as SymbolWord}
 use Rattle.scad_lexer.specs.Tokens.{FaultAt}
-use Rattle.scad_lexer.proofs.Lexing.{appends_none, appends_one, goes_on, goes_end, goes_fault, moved_symbol, rest_length, stray}
+use Rattle.scad_lexer.proofs.Lexing.{adds_none, adds_one, goes_on, goes_end, goes_fault, moved_symbol, rest_length, stray}
 use Rattle.scad_lexer.proofs.Scanned.{blank_found}
 use Rattle.scad_lexer.proofs.tokens.read_tokens.Goals as goal
 
@@ -13,7 +13,7 @@ pub words-preserved-then-begins : goal.words-preserved-then-begins
 words-preserved-then-begins c =
     let rest = c.words.rest.now in
     let longest = blank_found rest (sym c.begins.ensures.begins ∙ c.if-begins.true) in
-    let next = appends_none rest c.words.tokens.items c.words.place 1 Blank longest refl in
+    let next = adds_none rest c.words.tokens.items c.words.place 1 Blank longest refl in
     record {
       told = rw c.advance-place.ensures.place_after (goes_on c.args.text.now c.words.tokens.items _ c.words.place rest 1 c.words.invariant.told next);
       line = omega (arith, c.advance-place.ensures.line, rest_length rest 1 longest.within, length-take-le 1 rest longest.within, c.words.invariant.line);
@@ -24,7 +24,7 @@ pub words-preserved-in-Some : goal.words-preserved-in-Some
 words-preserved-in-Some c =
     let rest = c.words.rest.now in
     let longest = c.in-Some.ensures in
-    let next = appends_one rest c.words.tokens.items _ c.words.place 1 (SymbolWord c.in-Some.symbol) (Symbol c.in-Some.symbol) longest refl c.in_ok-push_token.ensures in
+    let next = adds_one rest c.words.tokens.items _ c.words.place 1 (SymbolWord c.in-Some.symbol) (Symbol c.in-Some.symbol) longest refl c.in_ok-push_token.ensures in
     let step = goes_on c.args.text.now c.words.tokens.items _ c.words.place rest 1 c.words.invariant.told next in
     record {
       told = rw (← moved_symbol c.words.place rest c.in-Some.symbol longest) step;
