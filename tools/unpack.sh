@@ -20,8 +20,8 @@ read_boot() {
 
 # Writes the program to standard output. (xz takes half as long as Python, which is there where the tools run.)
 unpack() {
-    xz -dc "$packed" 2>/dev/null || python3 -I -S -c 'import lzma, shutil, sys
-shutil.copyfileobj(lzma.open(sys.argv[1]), sys.stdout.buffer)' "$packed" 2>/dev/null
+    xz -dc "$packed" 2>/dev/null || python3 -I -S -c 'import lzma, sys
+sys.stdout.buffer.write(lzma.open(sys.argv[1]).read())' "$packed" 2>/dev/null
 }
 
 # Whether the program in boot/ is that of the sources and starts here; `program` is the unpacked one then. Else `why` says why
