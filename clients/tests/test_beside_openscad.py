@@ -109,7 +109,7 @@ class Beside(Calls):
             "module m() difference(){children(); !children($children-1);} m() {cube(3); translate([2, 2, 2]) cube(3);}",
             "cube(3); module m() {%children(0);} m() {translate([5, 0, 0]) cube(1); cube(9);}",
             "function f() = f(); module m() cube(2); m() {a = f();}",
-            "c = 2; n() {c = 2; cube(); cube(2, true);} module n() intersection(){children(c) cube(0); echo(c); cube(2, true);}",
+            "c = 2; n() {cube(); cube(2, true);} module n() intersection(){children(c) cube(0); echo(c); cube(2, true);}",
         )
         found = tool().batch([tool().Case(it.encode() + b"\n", is_body=True) for it in sources])
         self.assertTrue(all(outcome.differs for outcome, _ in found))

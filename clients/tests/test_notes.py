@@ -131,7 +131,7 @@ class Forms(unittest.TestCase):
         ):
             self.assertEqual(notes(source), [], source)
         # (of very many names only some are gone through)
-        for count, forms_found in ((7, ["missing-child"]), (9, [])):
+        for count, forms_found in ((7, ["missing-child"]), (30, [])):
             names = "".join(f"a{number} = a{number + 1}; " for number in range(count)) + f"a{count} = 1;"
             found = notes(f"{names} module m() intersection() {{ cube(2); children(a0); }} m() cube(1);")
             self.assertEqual([it.form for it in found], forms_found)
