@@ -3,6 +3,7 @@
 
 from __future__ import annotations
 
+from dataclasses import dataclass
 from typing import Callable, NamedTuple, Sequence, TypeVar
 
 from .scad_ast import (
@@ -84,9 +85,11 @@ def parameter_taken_by(names: Sequence[bytes], positional: int, arg: ArgTerm) ->
     return names.index(arg.name) if isinstance(arg, NamedTerm) and arg.name in names else None
 
 
-class Arguments(NamedTuple):
+@dataclass(eq=False)
+class Arguments:
     """What the arguments of a call give: to each parameter a value or nothing, and values to special names."""
 
+    __slots__ = ("bound", "dynamic")
     bound: list[Val | None]
     dynamic: dict[bytes, Val]
 

@@ -2,6 +2,7 @@
 
 from __future__ import annotations
 
+from dataclasses import dataclass
 from typing import Any, Callable, NamedTuple, Sequence
 
 from .scad_ast import (
@@ -30,18 +31,16 @@ class Counts:
         self.leaves = leaves
 
 
+@dataclass(eq=False)
 class InnerScope:
     """A scope's variables, functions and modules, the call of a module whose scope it is, and the scope outside it."""
 
     __slots__ = ("variables", "functions", "modules", "call", "outer")
-
-    def __init__(self, variables: dict[bytes, Val], functions: dict[bytes, SourceFunction], modules: dict[bytes, SourceModule],
-                 call: Activation | None, outer: InnerScope | None) -> None:
-        self.variables = variables
-        self.functions = functions
-        self.modules = modules
-        self.call = call
-        self.outer = outer
+    variables: dict[bytes, Val]
+    functions: dict[bytes, SourceFunction]
+    modules: dict[bytes, SourceModule]
+    call: Activation | None
+    outer: InnerScope | None
 
 
 Env = InnerScope
@@ -109,18 +108,19 @@ def turn(at: Place, counts: Counts) -> None:
     counts.turns += 1
 
 
-def count_elements(at: Place, counts: Counts, value: Val) -> None:
+def count_elements(at: Place, counts: Counts, values: tuple[Val, ...]) -> None:
     """Each element of a list that an expression gives, and the list itself, counts as a turn."""
-    if type(value) is tuple:
-        counts.turns += element_count(value)
-        if counts.turns > most_turns:
-            raise Fault("TooManyTurns", at)
+    counts.turns += element_count(values)
+    if counts.turns > most_turns:
+        raise Fault("TooManyTurns", at)
 
 
-class ExpressionContext(NamedTuple):
+@dataclass(eq=False)
+class ExpressionContext:
     """Where an expression stands: the evaluations in one another that are left for what is one deeper, the calls that are left,
     the scope, the dynamic bindings of special names, and the counts."""
 
+    __slots__ = ("evaluations", "calls_left", "env", "bindings", "counts")
     evaluations: int
     calls_left: int
     env: Env
@@ -298,6 +298,6 @@ def value_at_next_depth(here: ExpressionContext, counts: bool, term: Term) -> Va
     # (a term without parts evaluates nothing deeper)
     value = row(here, term) if type(term) in terms_without_parts else row(
         ExpressionContext(here.evaluations - 1, here.calls_left, here.env, here.bindings, here.counts), term)
-    if counts:
+    if counts and type(value) is tuple:
         count_elements(term.at, here.counts, value)
     return value

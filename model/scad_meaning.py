@@ -3,6 +3,7 @@ counted."""
 
 from __future__ import annotations
 
+from dataclasses import dataclass
 from typing import Iterable, NamedTuple, Sequence, TypeVar
 
 from .int_transform import image, map_of
@@ -140,10 +141,12 @@ class Extrusion(NamedTuple):
     height: int
 
 
-class Context(NamedTuple):
+@dataclass(eq=False)
+class Context:
     """Where an instance stands: the calls that are left, the scope, the dynamic bindings of special names, the extrusion
     that it is inside of, and whether it is inside an instance that is marked `!`."""
 
+    __slots__ = ("calls_left", "env", "bindings", "inside", "under_root")
     calls_left: int
     env: Env
     bindings: dict[bytes, Val]
@@ -176,9 +179,11 @@ def inside_extrusion(here: Context, through: Extrusion) -> Context:
     return Context(here.calls_left, here.env, here.bindings, through, here.under_root)
 
 
-class InstanceDesign(NamedTuple):
+@dataclass(eq=False)
+class InstanceDesign:
     """What an instance gives: its design, and the first of the designs in it that is marked `!`."""
 
+    __slots__ = ("design", "root")
     design: DesignTree
     root: DesignTree | None
 
@@ -190,10 +195,12 @@ class MemberDesigns:
         self.designs: list[DesignTree] = []
         self.root: DesignTree | None = None
 
-    def add(self, designs: Sequence[DesignTree], root: DesignTree | None) -> None:
-        """Members behind those that are there."""
-        self.designs.extend(designs)
-        self.root = root if self.root is None else self.root
+    def add(self, result: InstanceDesign, is_member: bool = True) -> None:
+        """What one instance more gives: a member behind those that are there, where it is one, and a root, if there is none."""
+        if is_member:
+            self.designs.append(result.design)
+        if self.root is None:
+            self.root = result.root
 
 
 no_design = InstanceDesign(empty, None)
@@ -204,10 +211,12 @@ def joined_members(op: str, members: MemberDesigns) -> InstanceDesign:
     return InstanceDesign(join_children(op, members.designs), members.root)
 
 
-class Evaluator(NamedTuple):
+@dataclass(eq=False)
+class Evaluator:
     """The evaluation of instances at one depth: whether lengths may lie on half units, how many evaluations in one another are
     left, and the counts."""
 
+    __slots__ = ("half", "evaluations", "counts")
     half: bool
     evaluations: int
     counts: Counts
@@ -247,7 +256,7 @@ def each_member(evaluator: Evaluator, here: Context, instances: Sequence[Instanc
     members = MemberDesigns()
     for instance in instances:
         result = design_within(evaluator, here, instance)
-        members.add([] if has_no_geometry(here.env, instance.core) else [result.design], result.root)
+        members.add(result, not has_no_geometry(here.env, instance.core))
     return members
 
 
@@ -257,6 +266,7 @@ def each_in_scope(evaluator: Evaluator, here: Context, statements: StatementTerm
     return each_member(evaluator, there, evaluated_instances(statements))
 
 
+@once
 def evaluates_nothing(statements: StatementTerms) -> bool:
     """A body in which nothing is evaluated. That it gives nothing is told at once: loops may have 100,000 turns."""
     return not assignments_of(statements) and not evaluated_instances(statements)
@@ -280,8 +290,7 @@ def each_iteration(evaluator: Evaluator, loop: ForTerm, at: int, here: Context, 
     first one slowest. A step of a variable that gave no member counts one turn when it ends."""
     if at == len(loop.binders):
         turn(loop.at, evaluator.counts)
-        result = body_design(evaluator, "union", here, loop.body)
-        members.add([result.design], result.root)
+        members.add(body_design(evaluator, "union", here, loop.body))
         return
     binder = loop.binders[at]
     items = iterated_values(value_at_next_depth(expression_context(evaluator, here), True, binder.values))

@@ -2,6 +2,7 @@
 
 from __future__ import annotations
 
+from dataclasses import dataclass
 from typing import Callable, NamedTuple, Sequence, TypeVar, Union
 
 from .int_transform import Affine, affine_of, determinant_of, power_of, quarter_rotation, reflection, scale_map, translation
@@ -206,10 +207,12 @@ def or_default(default: A, read: Callable[[Val], A | None], given: Val | None) -
     return default if given is None else of_type(read(given))
 
 
-class Call(NamedTuple):
+@dataclass(eq=False)
+class Call:
     """A call of a built-in module: whether lengths may lie on half units, whether it is inside an extrusion, `$fn`, and what is
     given to its parameters."""
 
+    __slots__ = ("half", "inside", "fragments", "bound")
     half: bool
     inside: bool
     fragments: Val | None

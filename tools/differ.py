@@ -1,12 +1,13 @@
 #!/usr/bin/env python3
 """Compares the program with model/, the meaning that is run from its definitions, on sources made by chance.
 
-    tools/differ.py SECONDS SEED [--jobs N] [--batches N] [--server PROGRAM]
+    tools/differ.py SECONDS SEED [--jobs N] [--batches N] [--each SECONDS] [--server PROGRAM]
 
 It ends after this many seconds, or after this many batches of 256. A fault is compared by its word and place. Of a solid
 some faces are tested to be where the model's tree begins or ends, and points by chance to be inside or outside both; one that
-passes a limit of solids is only counted. What differs is made smaller and printed. The last line says how many sources there
-were. The status is 1 where something differs, or nothing was compared."""
+passes a limit of solids is only counted. What differs is made smaller and printed. Each minute, or after as many seconds as
+--each says, a line on standard error says how many agreed so far. The last line says how many sources there were, also where
+SIGINT or SIGTERM ends the run. The status is 1 where something differs, nothing was compared, or a signal ended it."""
 
 from __future__ import annotations
 
@@ -16,6 +17,7 @@ import itertools
 import math
 import os
 import re
+import signal
 import sys
 import time
 from collections import Counter
@@ -221,30 +223,78 @@ def tell(found: Sequence[Difference]) -> None:
         print(f"{'half ' if it.half else ''}{it.said}\n{it.source.decode('utf-8', 'backslashreplace')}", flush=True)
 
 
+class Stopped(Exception):
+    """A signal that ends the run."""
+
+
+def stop(number: int, _: object) -> None:
+    """Ends the run at its first signal; what comes behind it is left out."""
+    for it in (signal.SIGINT, signal.SIGTERM):
+        signal.signal(it, signal.SIG_IGN)
+    raise Stopped(signal.Signals(number).name)
+
+
+def leave_to_parent() -> None:
+    """A worker ends with the run, which ends it: a terminal gives Ctrl-C to both."""
+    signal.signal(signal.SIGINT, signal.SIG_IGN)
+    signal.signal(signal.SIGTERM, signal.SIG_DFL)
+
+
+class Tally:
+    """What agreed so far, by its kind, and how many sources differ."""
+
+    def __init__(self, seed: int) -> None:
+        self.seed = seed
+        self.counts: Counter[str] = Counter()
+        self.differing = 0
+
+    def line(self) -> str:
+        return f"{sum(self.counts.values())} sources that agree, seed {self.seed}; {self.differing} that differ"
+
+
+def each_batch(asked: argparse.Namespace) -> Iterator[tuple[Counter[str], list[Difference]]]:
+    """What is found in batches, until the time is over or there are no more."""
+    until = time.monotonic() + asked.seconds
+    numbers = itertools.count() if asked.batches is None else iter(range(asked.batches))
+    with Pool(asked.jobs, leave_to_parent) as workers:
+        while time.monotonic() < until:
+            work = [(asked.server, asked.seed, number) for number in itertools.islice(numbers, asked.jobs * 4)]
+            if not work:
+                break
+            yield from workers.imap_unordered(batch, work)
+
+
+def compared(asked: argparse.Namespace, tally: Tally) -> None:
+    """Compares, and counts in a tally, which is told from time to time."""
+    then = time.monotonic() + asked.each
+    for counted, found in each_batch(asked):
+        tally.counts += counted
+        tally.differing += len(found)
+        tell(found)
+        if time.monotonic() >= then:
+            print(tally.line(), file=sys.stderr, flush=True)
+            then = time.monotonic() + asked.each
+
+
 def main(words: Sequence[str] | None = None) -> int:
     parser = argparse.ArgumentParser(description=__doc__.partition("\n")[0])
     parser.add_argument("seconds", type=float)
     parser.add_argument("seed", type=int)
     parser.add_argument("--jobs", type=int, default=os.cpu_count() or 1)
     parser.add_argument("--batches", type=int, help="at most this many, of 256 sources each")
+    parser.add_argument("--each", type=float, default=60, help="tell the count after this many seconds, again and again")
     parser.add_argument("--server", nargs=1, default=server_of_environment())
     asked = parser.parse_args(words)
-    until = time.monotonic() + asked.seconds
-    numbers = itertools.count() if asked.batches is None else iter(range(asked.batches))
-    counts: Counter[str] = Counter()
-    differing = 0
-    with Pool(asked.jobs) as workers:
-        while time.monotonic() < until:
-            work = [(asked.server, asked.seed, number) for number in itertools.islice(numbers, asked.jobs * 4)]
-            if not work:
-                break
-            for counted, found in workers.imap_unordered(batch, work):
-                counts += counted
-                differing += len(found)
-                tell(found)
-    print(", ".join(f"{count} {kind}" for kind, count in counts.most_common()))
-    print(f"{sum(counts.values())} sources that agree, seed {asked.seed}; {differing} that differ")
-    return 1 if differing or not counts else 0
+    tally, ended = Tally(asked.seed), ""
+    for it in (signal.SIGINT, signal.SIGTERM):
+        signal.signal(it, stop)
+    try:
+        compared(asked, tally)
+    except Stopped as by:
+        ended = f"; ended by {by}"
+    print(", ".join(f"{count} {kind}" for kind, count in tally.counts.most_common()))
+    print(tally.line() + ended)
+    return 1 if tally.differing or not tally.counts or ended else 0
 
 
 if __name__ == "__main__":

@@ -102,16 +102,18 @@ class Beside(Calls):
                 self.assertIn(name, names)
 
     def test_bodies_by_chance_that_once_stood_in_no_form(self):
-        """Marks before `children` with an index, and assignments in the braces of a call that asks for no child."""
+        """Marks before `children` with an index, assignments in the braces of a call that asks for no child, and an index that
+        a name stands for."""
         sources = (
             "cube(3); module m(a) !children(0); m(a=7) union(){*!cube();}",
             "module m() difference(){children(); !children($children-1);} m() {cube(3); translate([2, 2, 2]) cube(3);}",
             "cube(3); module m() {%children(0);} m() {translate([5, 0, 0]) cube(1); cube(9);}",
             "function f() = f(); module m() cube(2); m() {a = f();}",
+            "c = 2; n() {cube(); cube(2, true);} module n() intersection(){children(c) cube(0); echo(c); cube(2, true);}",
         )
         found = tool().batch([tool().Case(it.encode() + b"\n", is_body=True) for it in sources])
         self.assertTrue(all(outcome.differs for outcome, _ in found))
-        self.assertEqual([names for _, names in found], [*3 * [["marked-index"]], ["braces-unasked"]])
+        self.assertEqual([names for _, names in found], [*3 * [["marked-index"]], ["braces-unasked"], ["missing-child"]])
 
     def test_a_sample(self):
         status, printed, compared, differ, unlisted = self.compared("--rows", "60", "--chance", "1", "--seed", "5")

@@ -2,6 +2,7 @@
 
 import os
 import re
+import signal
 import stat
 import subprocess
 import sys
@@ -10,6 +11,7 @@ import unittest
 from tests.calls import PROGRAM, TOP, Calls, needs_program
 
 LAST = re.compile(r"(\d+) sources that agree, seed 4117; (\d+) that differ\n\Z")
+ENDED = re.compile(r"(\d+) sources that agree, seed 4117; 0 that differ; ended by (\w+)\n\Z")
 
 
 @needs_program
@@ -29,6 +31,21 @@ class Differ(Calls):
         # (what they agree on is of all kinds)
         for kind in ("solid", "empty", "TypeMismatch", "Expected", "UnknownName"):
             self.assertRegex(printed, rf"\b[1-9]\d* {kind}\b")
+
+    def test_it_tells_the_count_from_time_to_time_and_where_a_signal_ends_it(self):
+        words = [sys.executable, os.path.join(TOP, "tools", "differ.py"), "600", "4117", "--each", "0", "--jobs", "1"]
+        words += ["--server", PROGRAM]
+        for sent in (signal.SIGINT, signal.SIGTERM):
+            with subprocess.Popen(words, stdout=subprocess.PIPE, stderr=subprocess.PIPE, text=True) as run:
+                told = run.stderr.readline()
+                run.send_signal(sent)
+                printed, more = run.communicate()
+            self.assertEqual(told, "256 sources that agree, seed 4117; 0 that differ\n")
+            self.assertNotIn("Traceback", more)
+            last = ENDED.search(printed)
+            self.assertIsNotNone(last, printed)
+            self.assertEqual((run.returncode, last[2]), (1, sent.name))
+            self.assertGreaterEqual(int(last[1]), 256)
 
     def test_a_program_that_joins_otherwise_is_found(self):
         wrong = self.path("wrong")

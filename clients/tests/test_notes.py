@@ -75,6 +75,12 @@ SAME_THERE = (
     "module m() intersection() { cube(2); children(); } m() cube(1);",
     "module m() children([0 : 9998]); m() cube(2);",
     "module m() intersection() { cube(2); children($children - 1); } m() cube(1);",
+    "c = 2; module m() intersection() { c = 1; children(c); cube(2); } m() { cube(1); cube(3); }",
+    "c = 2; module m(c) intersection() { children(c); cube(2); } m(0) cube(1);",
+    "cube(3); c = [0]; module m() !children(c); m() cube(1);",
+    "n = 9999; for (i = [1 : n]) if (i == n) cube(2);",
+    "r = [0 : 20000]; for (r = [[1, 2]]) for (i = r) cube(i);",
+    "p = [[0, 0], [2, 0], [2, 2], [0, 2]]; linear_extrude(1) polygon(p);",
     "module k() cube(1); %k(); !cube(2);",
     "hull() polyhedron([[0, 0, 0], [3, 0, 0], [0, 2, 0], [0, 0, 2]], [[0, 1, 2], [0, 3, 1], [0, 2, 3], [1, 3, 2]]);",
     "polyhedron([[0, 0, 0], [3, 0, 0], [0, 2, 0], [0, 0, 2], [0, 0, 5]], [[0, 1, 2], [0, 3, 1], [0, 2, 3], [1, 3, "
@@ -117,6 +123,18 @@ class Forms(unittest.TestCase):
         for source in SAME_THERE:
             with self.subTest(source):
                 self.assertEqual(notes(source), [])
+
+    def test_names_that_stand_for_each_other_are_no_constants(self) -> None:
+        for source in (
+            "a = b; b = a; module m() intersection() { cube(2); children(a); } m() cube(1);",
+            "a = [a, a]; linear_extrude(1) polygon(a);",
+        ):
+            self.assertEqual(notes(source), [], source)
+        # (of very many names only some are gone through)
+        for count, forms_found in ((7, ["missing-child"]), (30, [])):
+            names = "".join(f"a{number} = a{number + 1}; " for number in range(count)) + f"a{count} = 1;"
+            found = notes(f"{names} module m() intersection() {{ cube(2); children(a0); }} m() cube(1);")
+            self.assertEqual([it.form for it in found], forms_found)
 
     def test_what_is_plain_at_once_has_no_note(self) -> None:
         """A source that is plain is looked into no further; here all are."""

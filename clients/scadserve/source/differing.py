@@ -15,6 +15,8 @@ CHECKS = (b"echo", b"assert")
 _ROUND = (b"circle", b"cylinder")
 #: OpenSCAD runs no loop over this many numbers, and takes no children of this many.
 _LONG = 10_000
+#: A name stands for a constant behind at most this many names.
+_MOST_NAMES = 8
 
 
 class Found:
@@ -181,9 +183,41 @@ class Found:
         """Whether a token stands in what a mark leaves out."""
         return any(it.has(at) for it in self._left_out)
 
+    @cached_property
+    def _assignments(self) -> Mapping[int, Assignment]:
+        """All assignments, by the tokens of their names."""
+        return {it.name: it for it in [*self.structure.assignments, *self.structure.inner_assignments]}
+
+    def _assigned_to(self, at: int) -> Span | None:
+        """The tokens that a variable is assigned, in the innermost scope that has it; None where it is a parameter or one of a
+        loop, or where the token is none."""
+        name = (VARIABLE, self.text(at))
+        scope = self.structure.places.get(at) if self.structure.roles.get(at) == VARIABLE else None
+        while scope is not None and name not in scope.bound:
+            scope = scope.around
+        assigned = self._assignments.get(scope.bound[name][-1]) if scope is not None else None
+        # (a special name has the value of the call)
+        is_other = assigned is None or self.tokens[at].is_special()
+        return None if is_other or assigned is None else Span(assigned.name + 2, assigned.last - 1)
+
+    def constant(self, span: Span) -> Span:
+        """The tokens of a value: those that a variable is assigned, where they are its name alone."""
+        for _ in range(_MOST_NAMES):
+            assigned = self._assigned_to(span.first) if span.first == span.last else None
+            if assigned is None:
+                break
+            span = assigned
+        return span
+
     def numbers(self, span: Span) -> object:
-        """The value of tokens that write a number or a list with no name in it; None where they write something else."""
-        texts = [self.text(at) for at in range(span.first, span.last + 1)]
+        """The value of tokens that write a number or a list, or are a name that is assigned one; in a list names may stand for
+        numbers. None where they write something else."""
+        span = self.constant(span)
+        texts: list[bytes] = []
+        for at in range(span.first, span.last + 1):
+            item = self.constant(Span(at, at))
+            # (a number has a sign at most)
+            texts += [self.text(it) for it in range(item.first, item.last + 1)] if item.last <= item.first + 1 else [b"?"]
         if not all(it in (b"[", b"]", b",", b"-") or it.isdigit() for it in texts):
             return None
         try:
@@ -227,7 +261,7 @@ def _is_missing(found: Found, it: Instance) -> bool:
     module = found.module_around(it.core)
     if module is None or not it.call.arguments:
         return module is None
-    given = it.call.arguments[0]
+    given = found.constant(it.call.arguments[0])
     index = found.numbers(given)
     least = index if isinstance(index, int) else 0
     counts = [len(found.children(call)) for call in found.calls_to.get(id(module), [])]
@@ -254,21 +288,24 @@ def _long_range(found: Found) -> Iterator[int]:
         elif found.is_built_in(it, b"children") and it.call is not None:
             spans = [value for _, value in found.arguments(it.call)]
         for span in spans:
-            yield from (at for at in range(span.first, span.last) if found.text(at) == b"[" and _length(found, at) >= _LONG)
+            places = [at for at in range(span.first, span.last) if found.text(at) == b"["]
+            yield from (at for at in [*places, *found.variables(span)] if _length(found, at) >= _LONG)
 
 
 def _length(found: Found, at: int) -> int:
-    """How many numbers a range has that begins at a bracket and is of numerals; 0 where it is another one."""
-    end = next((it for it in range(at, len(found.tokens)) if found.text(it) == b"]"), at)
-    parts = b" ".join(found.text(it) for it in range(at + 1, end)).split(b":")
-    try:
-        numbers = [int(it.replace(b" ", b"")) for it in parts]
-    except ValueError:
+    """How many numbers a range has that begins at a bracket, or that a variable is assigned there, and is of numbers; 0 where
+    it is another one."""
+    first = found.constant(Span(at, at)).first
+    if found.text(first) != b"[":
         return 0
-    if len(numbers) not in (2, 3):
+    end = next((it for it in range(first, len(found.tokens)) if found.text(it) == b"]"), first)
+    bounds = [first, *(it for it in range(first, end) if found.text(it) == b":"), end]
+    parts = [found.numbers(Span(one + 1, other - 1)) for one, other in zip(bounds, bounds[1:])]
+    numbers = [it for it in parts if isinstance(it, int)]
+    if len(parts) not in (2, 3) or len(numbers) < len(parts):
         return 0
-    first, step, last = (numbers[0], 1, numbers[1]) if len(numbers) == 2 else numbers
-    return (last - first) // step + 1 if step else 0
+    start, step, last = (numbers[0], 1, numbers[1]) if len(numbers) == 2 else numbers
+    return (last - start) // step + 1 if step else 0
 
 
 def _call_braces(found: Found) -> Iterator[int]:
@@ -341,7 +378,7 @@ def _is_by_index(found: Found, it: Instance) -> bool:
     """Whether it is a call of `children` with an index, in a module: in OpenSCAD it is that child itself, with the child's own
     marks. (A list or a range of indexes makes a node that has the marks of the call.)"""
     given = it.call.arguments if it.call is not None and found.is_built_in(it, b"children") else []
-    return bool(given) and found.text(given[0].first) != b"[" and found.module_around(it.core) is not None
+    return bool(given) and found.text(found.constant(given[0]).first) != b"[" and found.module_around(it.core) is not None
 
 
 def _is_all(found: Found, it: Instance) -> bool:

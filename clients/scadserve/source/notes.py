@@ -67,7 +67,7 @@ def placed_notes(source: Source) -> list[tuple[Note, Spot]]:
 
 def _is_plain(found: Sequence[Token]) -> bool:
     """Whether it shows at once that tokens stand in no form: nothing that a form has is in them, no braces have an assignment,
-    no extrusion has a second argument, and no polygon has enough lists that it could go round twice."""
+    no extrusion has a second argument, and no polygon has a name, or enough lists that it could go round twice."""
     if any(it.text in _TOKENS or it.is_special() for it in found):
         return False
     opened: list[int] = []
@@ -77,7 +77,8 @@ def _is_plain(found: Sequence[Token]) -> bool:
             opened.append(at)
         elif it.text in _CLOSING and opened:
             first = opened.pop()
-            if before == b"polygon" and sum(1 for other in found[first:at] if other.text == b"[") > _FEWEST_POINTS:
+            lists = sum(1 for other in found[first:at] if other.text == b"[")
+            if before == b"polygon" and (lists > _FEWEST_POINTS or found[first + 1].is_name()):
                 return False
         elif it.text == b"," and before == b"linear_extrude":
             return False
