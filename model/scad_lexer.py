@@ -16,8 +16,8 @@ exponent_part = rb"[eE][+-]?" + some_digits
 numeral_word = rb"(?:%b(?:\.[0-9]*)?|\.%b)(?:%b)?" % (some_digits, some_digits, exponent_part)
 open_text = rb'"(?:\\%b|[^"\\\n])*' % in_line
 symbols = (
-    b"(", b")", b"[", b"]", b"{", b"}", b",", b";", b"=", b":", b"?", b"+", b"-", b"*", b"%", b"<", b">", b"!", b"#", b"^", b".",
-    b"/", b"<=", b">=", b"==", b"!=", b"&&", b"||")
+    b"(", b")", b"[", b"]", b"{", b"}", b",", b";", b"=", b":", b"?", b"+", b"-", b"*", b"%", b"<", b">", b"!", b"#", b"^",
+    b".", b"/", b"<=", b">=", b"==", b"!=", b"&&", b"||")
 
 # Each word as long as possible: no part behind another one can take a byte from it. Blank bytes are taken together.
 words = (
