@@ -1,4 +1,4 @@
-//! The limits that an export may pass, for those who export and those who tell of it.
+//! The limits of an export, for the crates that export and for those that write replies.
 #![tactic(auto)]
 
 mod passed;
