@@ -1,5 +1,4 @@
-//! What the programs that answer cases share: cases on lines, repeated parts, phrases of a word and numbers, an interpreter of
-//! phrases, planes that phrases add, runs that are reported once, and appended text.
+//! What the programs that answer cases share: how a case is read, worked and printed.
 //!
 //! Standard input has a case on each line. An empty line and a line that begins with `#` are not cases. Standard output repeats
 //! each line, and has the answer to a case below it, behind four spaces. `rt ci` compares the output with the file `stdout`,

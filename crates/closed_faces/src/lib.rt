@@ -1,5 +1,5 @@
-//! Laws of faces that are closed along their edges, which the program doesn't call: sums over the ways of the faces, and the
-//! crossings of ways with them.
+//! Laws of faces in which each edge occurs as often as its reverse, which the program doesn't call: on a walk around a convex
+//! polygon, the crossings of the faces sum to 0.
 #![tactic(auto)]
 
 mod laws;

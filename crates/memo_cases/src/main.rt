@@ -1,4 +1,4 @@
-//! Answers cases of the memo: calls, journals, clients step by step, and callers at the same time who claim keys.
+//! Answers cases of the memo: its calls, its journal, its clients step by step, and callers that claim keys at the same time.
 //!
 //! The form is that of `case_lines`. A case is a list of phrases, with a comma and a space between two of them. The first
 //! phrase gives the kind of the case, the budget of a memo and the share of each caller, which is 0 where it isn't given. Keys

@@ -1,4 +1,5 @@
-//! One cube, worked as a law: from the bytes of its source, over its tokens, its program and its tree, to the bytes of its text.
+//! A law about one cube, from the bytes of its source, by way of its tokens, its program and its tree, to the bytes of its
+//! text.
 #![tactic(auto)]
 
 mod laws;

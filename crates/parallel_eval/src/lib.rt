@@ -1,4 +1,4 @@
-//! The solids of a store: builders divide its nodes, and use a memo that threads share and what an earlier store knew.
+//! Makes the solids of a store: builders divide its nodes among them, and use the shared memo and what an earlier store knew.
 #![tactic(auto)]
 
 mod gate;

@@ -1,5 +1,5 @@
-//! Laws of rays, which the program doesn't call: how often a way crosses the faces of a text, that points inside are near each
-//! vertex, that nothing changes beyond all vertices, and that trees which hold alike inside a box have the same faces there.
+//! Laws of texts, which the program doesn't call: crossings tell which points are inside the solid, vertices are limits of such
+//! points, and two trees with the same points in a box have the same faces there.
 #![tactic(auto)]
 
 mod laws;

@@ -1,5 +1,5 @@
-//! Laws of shapes as the hulls of their points, which do nothing when they run: what is inside a cube, a polyhedron, a
-//! cylinder, an extrusion or a hull, before and after it is placed.
+//! Laws of shapes, which do nothing when they run: a cube, a polyhedron, a cylinder, an extrusion or a hull is the hull of its
+//! points, before and after it is placed.
 #![tactic(auto)]
 
 mod laws;

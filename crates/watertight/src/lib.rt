@@ -1,4 +1,4 @@
-//! Laws of watertight texts, which do nothing when they run: what closed faces imply at every point of space.
+//! Laws of texts, which do nothing when they run: when a text is watertight, and that faces of one plane share no inner point.
 #![tactic(auto)]
 
 mod laws;
