@@ -48,7 +48,7 @@ SENTENCES: tuple[tuple[str, tuple[tuple[str, str], ...]], ...] = (
             ("watertight", "faces_share_no_inner_point"),
         ),
     ),
-    ("in general position, a straight path from a point to one outside", (("ray_crossings", "crossings_tell_inside"),)),
+    ("take a straight path that ends outside the solid", (("ray_crossings", "crossings_tell_inside"),)),
     ("the printed tally, if it was asked for", (("script_server", "serve"),)),
 )
 
