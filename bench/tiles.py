@@ -88,13 +88,18 @@ def by_chance(asked: argparse.Namespace) -> int:
 
 
 def row_of_balls(count: int, fragments: int = 40) -> Grid:
-    """Balls with bores, in rows of a square."""
+    """Balls with bores, in rows of a square, each moved a little by chance.
+
+    (In even rows all walls of tiles would go between balls for some numbers of them, and through balls for others.)
+    """
     side = round(count**0.5 + 0.499)
+    rolled = Random(count)
     balls = [chance.ball((0, 0, 0), 70 + it, fragments).hull for it in range(min(count, 7))]
     bore = chance.cone((0, 0, -100), 25, 25, 200, 24).hull
     parts: list[Grid] = []
     for at in range(count):
-        place = (at % side * 150 - 75 * side, at // side * 150 - 75 * side, 0)
+        x, y, z = (rolled.randint(-30, 30) for _ in range(3))
+        place = (at % side * 150 - 75 * side + x, at // side * 150 - 75 * side + y, z)
         bodies = [chance.Body(moved_hull(it, place), chance.NODE) for it in (balls[at % 7], bore)]
         parts.append(Join(DIFFERENCE, bodies))
     return Join(UNION, parts) if count > 1 else parts[0]
@@ -126,7 +131,7 @@ HEADS = "Planes | Tiles | Cutting, s | Tiles, s | Joining, s | All, s of process
 
 def growth(asked: argparse.Namespace) -> int:
     print(f"| {HEADS}\n{'|---' * 7}|", flush=True)
-    for count in (2, 4, 8, 16, 32, 64, 96):
+    for count in (2, 5, 10, 20, 50, 100):
         grid = row_of_balls(count)
         if asked.least <= planes_of(grid) <= asked.most:
             print(f"| {row_of(grid, asked.jobs, Limits())} |", flush=True)

@@ -2,14 +2,15 @@
 """Compares what `scad2off --by-openscad` gives with what OpenSCAD makes of the same sources: box, volume, points, closed
 meshes.
 
-    tools/compare-openscad.py [--kept DIR] [--jobs N] [--longest SECONDS] [FILE.scad | DIR ..]
+    tools/compare-openscad.py [--kept DIR] [--jobs N] [--longest SECONDS] [--solids] [FILE.scad | DIR ..]
 
 Without a FILE it takes bench/openscad and the examples that OpenSCAD ships, and of a folder all sources in it. A row of a
 table is printed for each: whether it passes, how many seconds both took (ours by the clock and of all processors, OpenSCAD's
 of its one), of how many tiles ours is made, how far a point may be off, also as a share of the part's size, what OpenSCAD
 makes of it, and what stops it or differs. Where OpenSCAD makes no solid, a refusal passes; what it makes of a plan is that of
 `linear_extrude(1)`. DIR keeps OpenSCAD's meshes, which may take minutes. N is the number of runs of the server side by side.
-A program that takes more SECONDS of a processor (600) is ended.
+A program that takes more SECONDS of a processor (600) is ended. With `--solids` ours is made only where OpenSCAD makes a solid
+with a closed mesh, and says no error.
 
 The last lines count how many pass, of how many OpenSCAD makes a solid with a closed mesh, and how many of these pass with no
 point off by more than a thousandth of their size. The status is 0 where nothing differs, 1 where something does, and 2 where
@@ -45,7 +46,7 @@ class Row(NamedTuple):
     """What is found of a source: its row, whether it passes, and what OpenSCAD makes of it."""
 
     cells: list[str]
-    passes: bool
+    passes: bool | None
     made: str
     is_fine: bool
 
@@ -75,7 +76,8 @@ def evaluated_form(file):
 
 
 def theirs(file, base, longest):
-    """OpenSCAD's mesh of a source as a text, "" where it makes none, and how long it takes; whether the source is a plan."""
+    """OpenSCAD's mesh of a source as a text, "" where it makes none, and how long it takes; whether the source is a plan, and
+    whether OpenSCAD says an error."""
     if not os.path.exists(base + ".time"):
         took, status, said, _ = timed(["openscad", "--render", "-o", base + ".off", file], longest)
         is_plan = status != 0 and "not a 3D object" in said
@@ -83,15 +85,16 @@ def theirs(file, base, longest):
             wrapped = base + "-plan.scad"
             with open(wrapped, "w", encoding="utf-8") as it:
                 it.write(f"linear_extrude(1) {{ {evaluated_form(file)} }}\n")
-            took, status, _, _ = timed(["openscad", "--render", "-o", base + ".off", wrapped], longest)
+            took, status, said, _ = timed(["openscad", "--render", "-o", base + ".off", wrapped], longest)
         with open(base + ".time", "w", encoding="utf-8") as it:
-            it.write(f"{took:.2f} {is_plan}")
+            it.write(f"{took:.2f} {int(is_plan)} {int('ERROR' in said)}")
     with open(base + ".time", encoding="utf-8") as it:
-        took, is_plan = it.read().split()
-    if not os.path.exists(base + ".off"):
-        return "", float(took), is_plan == "True"
-    with open(base + ".off", encoding="utf-8") as it:
-        return it.read(), float(took), is_plan == "True"
+        took, is_plan, is_wrong = map(float, it.read().split())
+    mesh = ""
+    if os.path.exists(base + ".off"):
+        with open(base + ".off", encoding="utf-8") as it:
+            mesh = it.read()
+    return mesh, took, bool(is_plan), bool(is_wrong)
 
 
 def ours(file, folder, asked):
@@ -136,9 +139,13 @@ def compared(file, base, asked):
     """What is found of a source, of which what is kept begins with `base`."""
     name = os.path.splitext(os.path.basename(file))[0]
     with tempfile.TemporaryDirectory() as folder:
-        mesh, their_time, is_plan = theirs(file, base, asked.longest)
+        mesh, their_time, is_plan, is_wrong = theirs(file, base, asked.longest)
         body = of_off(mesh) if mesh else None
-        made = ("closed" if meets_itself(body) else "open") + " plan" * is_plan if body else "nothing"
+        made = "nothing"
+        if body:
+            made = "error" if is_wrong else ("closed" if meets_itself(body) else "open") + " plan" * is_plan
+        if asked.solids and made != "closed":
+            return Row([name, "", "", "", f"{their_time:.1f}", "", "", made, ""], None, made, False)
         text, by_clock, our_time, said = ours(base + "-plan.scad" if is_plan else file, folder, asked)
         what, off, passes, is_fine = "", "", False, False
         if text is None:
@@ -176,6 +183,7 @@ def main():
     parser.add_argument("--kept", metavar="DIR", help="where OpenSCAD's meshes are kept")
     parser.add_argument("--jobs", type=int, metavar="N", help="how many tiles of a part are made at the same time")
     parser.add_argument("--longest", type=int, default=600, metavar="SECONDS", help="how long a program may take")
+    parser.add_argument("--solids", action="store_true", help="make only those that are closed solids by OpenSCAD")
     parser.add_argument("files", nargs="*", metavar="FILE.scad", help="a source, or a folder of sources")
     asked = parser.parse_args()
     files = sources_of(asked.files) or sorted(glob.glob(f"{TOP}/bench/openscad/*.scad")) + sorted(glob.glob(EXAMPLES))
@@ -194,11 +202,12 @@ def main():
             base = os.path.join(kept, os.path.splitext(os.path.relpath(file, common))[0].replace(os.sep, "-"))
             rows.append(compared(file, base, asked))
             print(f"| {' | '.join(rows[-1].cells)} |", flush=True)
-    print(f"{sum(it.passes for it in rows)} of {len(rows)} pass")
+    compared_ones = [it for it in rows if it.passes is not None]
+    print(f"{sum(it.passes for it in compared_ones)} of {len(compared_ones)} pass")
     for kind, name in (("closed", "solid"), ("closed plan", "solid, of a plan that is made 1 high,")):
         those = [it for it in rows if it.made == kind]
         print(f"{sum(it.is_fine for it in those)} of {len(those)} of which OpenSCAD makes a closed {name} pass within a thousandth")
-    return 0 if all(it.passes for it in rows) else 1
+    return 0 if all(it.passes for it in compared_ones) else 1
 
 
 if __name__ == "__main__":

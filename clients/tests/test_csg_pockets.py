@@ -135,6 +135,31 @@ class Sources(unittest.TestCase):
         mirrored = f"multmatrix([[-1, 0, 0, 0], [0, 1, 0, 0], [0, 0, 1, 0], [0, 0, 0, 1]]) {{ {text} }}"
         self.assertEqual(len(bodies(mirrored, 1)), len(bodies(text, 1)))
 
+    def test_faces_back_to_back_bound_nothing(self):
+        plain = box((0, 0, 0), (4, 2, 2))
+        (first,) = bodies(self.polyhedron(plain), 1)
+        sheet, line = [(0, 0, 0), (4, 0, 0), (4, 2, 2)], [(0, 0, 0), (4, 0, 0), (2, 0, 0)]
+        for flat in (sheet, line, [*sheet, (1, 1, 1)]):
+            extended = [*plain, flat, [*flat[:1], *flat[:0:-1]]]
+            self.assertEqual([it.facets for it in bodies(self.polyhedron(extended), 1)], [first.facets])
+        with self.assertRaises(CsgFault) as caught:
+            bodies(self.polyhedron([*plain, sheet]), 1)
+        self.assertEqual(caught.exception.word, "NotClosed")
+
+    def test_a_body_that_touches_itself_along_an_edge(self):
+        two = box((0, 0, 0), (2, 2, 2)) + box((2, 2, 0), (5, 5, 2))
+        found = bodies(self.polyhedron(two), 1)
+        self.assertEqual(sorted(volume6(it) for it in found), [6 * 8, 6 * 18])
+        for overlapping in (
+            box((0, 0, 0), (2, 2, 2)) * 2,
+            box((0, 0, 0), (4, 4, 4)) + box((0, 0, 0), (2, 2, 4)),
+            # (two wedges over one edge, of which each begins in the other)
+            prism([(0, 0), (4, 0), (4, 4)], 3) + prism([(0, 0), (4, 2), (0, 4)], 3),
+        ):
+            with self.assertRaises(CsgFault) as caught:
+                bodies(self.polyhedron(overlapping), 1)
+            self.assertEqual(caught.exception.word, "NotConvex")
+
     def test_faces_that_go_through_one_another(self):
         crossed = prism(HOOK, 3) + prism([(0, 0), (2, 0), (1, 2)], 8, (0, 3, -2))
         with self.assertRaises(CsgFault) as caught:
