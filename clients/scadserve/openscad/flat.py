@@ -67,6 +67,8 @@ class Plane:
             return self.plan(node.shown(), matrix)
         if node.name in (DIFFERENCE, INTERSECTION):
             return joined(node.name, [self._plan(it, matrix) for it in node.shown()])
+        if self._detail.is_endless(node):
+            return None
         if node.name == "square":
             return self._square(node, matrix)
         if node.name == "circle":

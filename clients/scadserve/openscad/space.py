@@ -47,7 +47,7 @@ class Space:
             return joined(node.name, [self._solid(it, matrix) for it in node.shown()])
         if node.name not in self._of:
             raise node.fault("WrongDimension", "a shape in the plane stands where one in space is wanted")
-        return self._of[node.name](node, matrix)
+        return None if self._detail.is_endless(node) else self._of[node.name](node, matrix)
 
     def _cube(self, node: Node, matrix: Matrix) -> Solid | None:
         sides = node.numbers("size", 3)
