@@ -59,7 +59,7 @@ def spent():
 
 def timed(words, longest):
     """How many processor seconds a program takes, its status and what it says on standard error and output. It is ended after
-    so many of them, however busy the machine is."""
+    this many of them, however busy the machine is."""
     began = spent()
     done = subprocess.run(
         words, stdin=subprocess.DEVNULL, stdout=subprocess.PIPE, stderr=subprocess.PIPE, check=False,

@@ -160,6 +160,22 @@ class Sources(unittest.TestCase):
                 bodies(self.polyhedron(overlapping), 1)
             self.assertEqual(caught.exception.word, "NotConvex")
 
+    def test_a_face_that_is_not_flat_is_cut_as_by_openscad(self):
+        # (one corner of a cube is higher: above it lies a triangle of the half of the upper face that has the corner)
+        points = [[x, y, z] for z in (0, 6) for y in (0, 6) for x in (0, 6)]
+        points[7][2] = 9
+        faces = [[0, 1, 3, 2], [0, 4, 5, 1], [2, 3, 7, 6], [0, 2, 6, 4], [1, 5, 7, 3]]
+        for upper, more in (([4, 6, 7, 5], 18), ([6, 7, 5, 4], 36)):
+            text = f"polyhedron(points = {points}, faces = {[*faces, upper]}, convexity = 1);"
+            (first, *others) = bodies(text, 1)
+            self.assertEqual(sum(volume6(it) for it in (first, *others)), 6 * (216 + more))
+        for move in ([1, 1, 6], [4, 4, 9]):
+            five = [*points, move]
+            text = f"polyhedron(points = {five}, faces = {[*faces[:-1], [1, 5, 8, 7, 3], [4, 6, 7, 8, 5]]}, convexity = 1);"
+            with self.assertRaises(CsgFault) as caught:
+                bodies(text, 1)
+            self.assertIn("isn't flat", caught.exception.said)
+
     def test_faces_that_go_through_one_another(self):
         crossed = prism(HOOK, 3) + prism([(0, 0), (2, 0), (1, 2)], 8, (0, 3, -2))
         with self.assertRaises(CsgFault) as caught:

@@ -207,15 +207,16 @@ class Forms(unittest.TestCase):
                 read(text)
             self.assertIn(said, str(caught.exception))
 
-    def test_a_size_without_an_end_makes_nothing_and_is_told(self):
+    def test_an_infinite_size_makes_nothing_and_is_told(self):
         for shape in (
             "cube(size = [inf, 1, 1]);", "sphere($fn = 8, r = nan);", "cylinder($fn = 8, h = 1, r1 = 1, r2 = inf);",
-            "linear_extrude(height = 1) { square(size = [1, nan]); }", "linear_extrude(height = 1) { circle($fn = 8, r = inf); }",
+            "linear_extrude(height = 1) { square(size = [1, nan]); }",
+            "linear_extrude(height = 1) { circle($fn = 8, r = inf); }",
         ):  # fmt: skip
             found = converted(read(CUBE + shape), Wanted(), Front("."))
             self.assertEqual(found.text.count(b"cube("), 1)
             self.assertNotIn(b"polygon", found.text)
-            self.assertTrue(any("since a size has no end" in it for it in found.told), shape)
+            self.assertTrue(any("since a size is infinite or undefined" in it for it in found.told), shape)
         self.assertIn("Empty", self.fault("sphere($fn = 8, r = inf);"))
 
     def test_slices_that_would_vanish_are_joined(self):

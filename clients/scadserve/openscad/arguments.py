@@ -30,7 +30,7 @@ READ: dict[str, list[str]] = {
     "import": [*_FILE, *CURVE],
     "surface": ["file", "center", "invert"],
 }
-#: By the name of a shape its sizes: where one of them has no end, or is no number, OpenSCAD makes nothing of it.
+#: By the name of a shape its sizes: where one of them is infinite or undefined, OpenSCAD makes nothing of it.
 SIZES = {"cube": ["size"], "sphere": ["r"], "cylinder": ["h", "r1", "r2"], "square": ["size"], "circle": ["r"]}
 #: Nodes in which no other node stands.
 LEAVES = {"cube", "sphere", "cylinder", "polyhedron", "square", "circle", "polygon", "text", "import", "surface"}

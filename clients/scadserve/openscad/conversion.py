@@ -375,7 +375,8 @@ def _thicker_told(detail: Detail) -> list[str]:
 
 
 def _endless_told(detail: Detail) -> list[str]:
-    return [f"nothing, as in OpenSCAD, since a size has no end: {_named(detail.endless)}"] if detail.endless else []
+    told = "nothing, as in OpenSCAD, since a size is infinite or undefined"
+    return [f"{told}: {_named(detail.endless)}"] if detail.endless else []
 
 
 def _inward_told(detail: Detail) -> list[str]:

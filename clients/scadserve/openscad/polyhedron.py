@@ -100,6 +100,7 @@ def seen(node: Node, places: Sequence[Vector], faces: Sequence[Sequence[int]]) -
     """What makes the convex parts of a polyhedron where some point sees all faces, or else its surface. Raises CsgFault."""
     points, numbers = _merged(places)
     rings = _single([[numbers[it] for at, it in enumerate(face) if numbers[it] != numbers[face[at - 1]]] for face in faces])
+    rings = _flat_rings(node, points, rings)
     # (turned round, so that triangles go counterclockwise as seen from outside)
     triangles = [(ring[0], c, b) for ring in rings for b, c in zip(ring[1:], ring[2:])]
     triangles = [it for it in triangles if len(set(it)) == 3]
@@ -154,6 +155,38 @@ def _single(rings: list[list[int]]) -> list[list[int]]:
         else:
             left.setdefault(_turned(ring), []).append(number)
     return [rings[it] for it in sorted(number for numbers in left.values() for number in numbers)]
+
+
+def _flat_rings(node: Node, points: Sequence[exact_hull.Point], rings: list[list[int]]) -> list[list[int]]:
+    """The faces, of which convex ones with four corners that aren't flat are cut from the second to the fourth, as by OpenSCAD.
+
+    Raises CsgFault at another face that isn't flat: it is not known how OpenSCAD cuts it.
+    """
+    size = max((max(abs(it) for it in point) for point in points), default=0)
+    found: list[list[int]] = []
+    for ring in rings:
+        corners = [points[it] for it in ring]
+        normal = _normal(corners)
+        length = sum(float(it) * it for it in normal) ** 0.5
+        heights = [exact_hull.dot(normal, exact_hull.less(it, corners[0])) / length if length else 0.0 for it in corners]
+        if len(ring) < 4 or max(heights) - min(heights) <= 3 * _FLAT * size:
+            found.append(ring)
+            continue
+        bends = [_normal([corners[at - 1], corners[at], corners[(at + 1) % len(ring)]]) for at in range(len(ring))]
+        if len(ring) > 4 or any(exact_hull.dot(normal, it) <= 0 for it in bends):
+            raise node.fault("NotConvex", "a face of it isn't flat: give its triangles")
+        a, b, c, d = ring
+        found += [[a, b, d], [b, c, d]]
+    return found
+
+
+def _normal(corners: Sequence[exact_hull.Point]) -> exact_hull.Point:
+    """The direction across a closed line, as long as twice its area."""
+    normal = (0, 0, 0)
+    for p, q in zip(corners, [*corners[1:], *corners[:1]]):
+        x, y, z = exact_hull.cross(exact_hull.less(p, corners[0]), exact_hull.less(q, corners[0]))
+        normal = (normal[0] + x, normal[1] + y, normal[2] + z)
+    return normal
 
 
 def _turned(ring: Sequence[int]) -> tuple[int, ...]:

@@ -104,7 +104,7 @@ class Node:
         return found
 
     def is_endless(self, names: Sequence[str]) -> bool:
-        """Whether one of these arguments is, or holds, what is infinite or no number."""
+        """Whether one of these arguments is, or holds, what is infinite or undefined."""
         found: list[Value] = [self.arguments.get(it) for it in names]
         numbers = [number for it in found for number in (it if isinstance(it, list) else [it])]
         return any(isinstance(it, float) and not math.isfinite(it) for it in numbers)

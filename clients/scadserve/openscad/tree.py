@@ -269,7 +269,7 @@ class Detail:
     hulls: list[Node] = field(default_factory=list)
     #: Polyhedra whose faces looked inward, and were turned.
     inward: list[Node] = field(default_factory=list)
-    #: Shapes of which nothing is made, since a size of theirs has no end.
+    #: Shapes of which nothing is made, since a size of theirs is infinite or undefined.
     endless: list[Node] = field(default_factory=list)
     #: How high a slice of what turns or is scaled on the way is at least; lower ones are joined, so that none vanishes.
     least_slice: float = 0.0
@@ -328,7 +328,7 @@ class Detail:
             self.inward.append(node)
 
     def is_endless(self, node: Node) -> bool:
-        """Whether a size of a shape has no end, or is no number, which is noted."""
+        """Whether a size of a shape is infinite or undefined, which is noted."""
         found = node.is_endless(SIZES.get(node.name, []))
         if found and node not in self.endless:
             self.endless.append(node)
