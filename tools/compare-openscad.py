@@ -142,7 +142,7 @@ def compared(file, base, asked):
         mesh, their_time, is_plan, is_wrong = theirs(file, base, asked.longest)
         body = of_off(mesh) if mesh else None
         made = "nothing"
-        if body:
+        if body and body.volume():
             made = "error" if is_wrong else ("closed" if meets_itself(body) else "open") + " plan" * is_plan
         if asked.solids and made != "closed":
             return Row([name, "", "", "", f"{their_time:.1f}", "", "", made, ""], None, made, False)
@@ -206,7 +206,8 @@ def main():
     print(f"{sum(it.passes for it in compared_ones)} of {len(compared_ones)} pass")
     for kind, name in (("closed", "solid"), ("closed plan", "solid, of a plan that is made 1 high,")):
         those = [it for it in rows if it.made == kind]
-        print(f"{sum(it.is_fine for it in those)} of {len(those)} of which OpenSCAD makes a closed {name} pass within a thousandth")
+        fine = sum(it.is_fine for it in those)
+        print(f"{fine} of {len(those)} of which OpenSCAD makes a closed {name} pass within a thousandth")
     return 0 if all(it.passes for it in compared_ones) else 1
 
 

@@ -30,8 +30,10 @@ READ: dict[str, list[str]] = {
     "import": [*_FILE, *CURVE],
     "surface": ["file", "center", "invert"],
 }
-#: By the name of a shape its sizes: where one of them is infinite or undefined, OpenSCAD makes nothing of it.
-SIZES = {"cube": ["size"], "sphere": ["r"], "cylinder": ["h", "r1", "r2"], "square": ["size"], "circle": ["r"]}
+#: By the name of a node its sizes, or its matrix: where one of these is infinite or undefined, OpenSCAD makes nothing of it.
+SIZES = {
+    "cube": ["size"], "sphere": ["r"], "cylinder": ["h", "r1", "r2"], "square": ["size"], "circle": ["r"], "multmatrix": [""]
+}  # fmt: skip
 #: Nodes in which no other node stands.
 LEAVES = {"cube", "sphere", "cylinder", "polyhedron", "square", "circle", "polygon", "text", "import", "surface"}
 _WITH_CONVEXITY = "polyhedron polygon linear_extrude rotate_extrude projection import surface render minkowski resize"

@@ -61,14 +61,14 @@ class Plane:
         return Plane(Detail(self._detail.most), self._render)
 
     def _plan(self, node: Node, matrix: Matrix) -> Plan | None:
+        if self._detail.is_endless(node):
+            return None
         if node.name == "multmatrix":
             return self.plan(node.shown(), times(matrix, matrix_of(node)))
         if node.name in ("group", "union", "color", "render"):
             return self.plan(node.shown(), matrix)
         if node.name in (DIFFERENCE, INTERSECTION):
             return joined(node.name, [self._plan(it, matrix) for it in node.shown()])
-        if self._detail.is_endless(node):
-            return None
         if node.name == "square":
             return self._square(node, matrix)
         if node.name == "circle":

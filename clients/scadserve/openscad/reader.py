@@ -106,8 +106,9 @@ class Node:
     def is_endless(self, names: Sequence[str]) -> bool:
         """Whether one of these arguments is, or holds, what is infinite or undefined."""
         found: list[Value] = [self.arguments.get(it) for it in names]
-        numbers = [number for it in found for number in (it if isinstance(it, list) else [it])]
-        return any(isinstance(it, float) and not math.isfinite(it) for it in numbers)
+        while any(isinstance(it, list) for it in found):
+            found = [number for it in found for number in (it if isinstance(it, list) else [it])]
+        return any(isinstance(it, float) and not math.isfinite(it) for it in found)
 
     def truth(self, name: str) -> bool:
         """A truth, false where none is given. Raises CsgFault."""

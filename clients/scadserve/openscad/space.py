@@ -39,6 +39,8 @@ class Space:
         return joined(UNION, [self._solid(it, matrix) for it in nodes])
 
     def _solid(self, node: Node, matrix: Matrix) -> Solid | None:
+        if self._detail.is_endless(node):
+            return None
         if node.name == "multmatrix":
             return self.solid(node.shown(), times(matrix, matrix_of(node)))
         if node.name in ("group", "union", "color", "render"):
@@ -47,7 +49,7 @@ class Space:
             return joined(node.name, [self._solid(it, matrix) for it in node.shown()])
         if node.name not in self._of:
             raise node.fault("WrongDimension", "a shape in the plane stands where one in space is wanted")
-        return None if self._detail.is_endless(node) else self._of[node.name](node, matrix)
+        return self._of[node.name](node, matrix)
 
     def _cube(self, node: Node, matrix: Matrix) -> Solid | None:
         sides = node.numbers("size", 3)
