@@ -156,10 +156,10 @@ SECTIONS = (
         "tiles",
         ("python3", "bench/tiles.py", "growth", "--jobs", "1"),
         "How long do designs by tiles take, and how does the time grow?",
-        "`python3 bench/tiles.py growth --jobs 1` makes squares of 2 to 96 balls with bores, at one density, "
-        "[by tiles](OPENSCAD.md#any-size-by-tiles). The processor seconds are those to cut the design into pieces, to make "
-        "the tiles of the pieces with the server and read their texts, and to join these. The time grows no faster than "
-        "n log n as long as the last column grows no faster than the logarithm of the first.",
+        "`python3 bench/tiles.py growth --jobs 1` makes squares of 2 to 100 balls with bores, at one density, each moved a "
+        "little by chance, [by tiles](OPENSCAD.md#any-size-by-tiles). The processor seconds are those to cut the design into "
+        "pieces, to make the tiles of the pieces with the server and read their texts, and to join these. The time grows no "
+        "faster than n log n as long as the last column grows no faster than the logarithm of the first.",
         printed_table,
     ),
     Section(

@@ -87,14 +87,19 @@ def by_chance(asked: argparse.Namespace) -> int:
     return 1 if differing else 0
 
 
-def row_of_balls(count: int, fragments: int = 40) -> Grid:
-    """Balls with bores, in rows of a square."""
+def row_of_balls(count: int, moved: int = 0, fragments: int = 40) -> Grid:
+    """Balls with bores, in rows of a square, each moved along each axis by at most so much, by chance.
+
+    In even rows all walls of tiles go between balls for some numbers of them, and through balls for others.
+    """
     side = round(count**0.5 + 0.499)
+    rolled = Random(count)
     balls = [chance.ball((0, 0, 0), 70 + it, fragments).hull for it in range(min(count, 7))]
     bore = chance.cone((0, 0, -100), 25, 25, 200, 24).hull
     parts: list[Grid] = []
     for at in range(count):
-        place = (at % side * 150 - 75 * side, at // side * 150 - 75 * side, 0)
+        x, y, z = (rolled.randint(-moved, moved) for _ in range(3))
+        place = (at % side * 150 - 75 * side + x, at // side * 150 - 75 * side + y, z)
         bodies = [chance.Body(moved_hull(it, place), chance.NODE) for it in (balls[at % 7], bore)]
         parts.append(Join(DIFFERENCE, bodies))
     return Join(UNION, parts) if count > 1 else parts[0]
@@ -117,7 +122,7 @@ def row_of(grid: Grid, jobs: int | None, limits: Limits) -> str:
     ended = spent()
     steps = [cut - began, made_ones - cut, ended - made_ones]
     planes = planes_of(grid)
-    cells = [str(planes), str(len(parts)), *(f"{it:.2f}" for it in steps), f"{ended - began:.1f}"]
+    cells = [str(planes), str(len(parts)), *(f"{it:.3f}" for it in steps), f"{ended - began:.2f}"]
     return " | ".join([*cells, f"{(ended - began) / planes * 1e6:.0f}"])
 
 
@@ -126,8 +131,8 @@ HEADS = "Planes | Tiles | Cutting, s | Tiles, s | Joining, s | All, s of process
 
 def growth(asked: argparse.Namespace) -> int:
     print(f"| {HEADS}\n{'|---' * 7}|", flush=True)
-    for count in (2, 4, 8, 16, 32, 64, 96):
-        grid = row_of_balls(count)
+    for count in (2, 5, 10, 20, 50, 100):
+        grid = row_of_balls(count, moved=30)
         if asked.least <= planes_of(grid) <= asked.most:
             print(f"| {row_of(grid, asked.jobs, Limits())} |", flush=True)
     return 0

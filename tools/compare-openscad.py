@@ -2,13 +2,18 @@
 """Compares what `scad2off --by-openscad` gives with what OpenSCAD makes of the same sources: box, volume, points, closed
 meshes.
 
-    tools/compare-openscad.py [--kept DIR] [FILE.scad | DIR ..]
+    tools/compare-openscad.py [--kept DIR] [--jobs N] [--longest SECONDS] [--solids] [FILE.scad | DIR ..]
 
 Without a FILE it takes bench/openscad and the examples that OpenSCAD ships, and of a folder all sources in it. A row of a
 table is printed for each: whether it passes, how many seconds both took (ours by the clock and of all processors, OpenSCAD's
-of its one), of how many tiles ours is made, how far a point may be off, also as a share of the part's size, and what stops it
-or differs. Where OpenSCAD makes no solid, a refusal passes; what it makes of a plan is that of `linear_extrude(1)`. DIR keeps
-OpenSCAD's meshes, which may take minutes. The status is 0 where nothing differs, 1 where something does, and 2 where
+of its one), of how many tiles ours is made, how far a point may be off, also as a share of the part's size, what OpenSCAD
+makes of it, and what stops it or differs. Where OpenSCAD makes no solid, a refusal passes; what it makes of a plan is that of
+`linear_extrude(1)`. DIR keeps OpenSCAD's meshes, which may take minutes. N is the number of runs of the server side by side.
+A program that takes more SECONDS of a processor (600) is ended. With `--solids` ours is made only where OpenSCAD makes a solid
+with a closed mesh, and says no error.
+
+The last lines count how many pass, of how many OpenSCAD makes a solid with a closed mesh, and how many of these pass with no
+point off by more than a thousandth of their size. The status is 0 where nothing differs, 1 where something does, and 2 where
 openscad, admesh or a file is missing.
 """
 
@@ -23,6 +28,8 @@ import subprocess
 import sys
 import tempfile
 import time
+from collections import Counter
+from typing import NamedTuple
 
 TOP = os.path.dirname(os.path.dirname(os.path.realpath(__file__)))
 sys.path.insert(0, os.path.join(TOP, "clients"))
@@ -33,8 +40,15 @@ from scadserve.openscad import front, reader  # noqa: E402
 from tests.against_openscad import differences, of_4off, of_off  # noqa: E402
 
 EXAMPLES = "/usr/share/openscad/examples/*/*.scad"
-# A solid for which OpenSCAD takes more processor seconds isn't waited for.
-LONGEST = 600
+
+
+class Row(NamedTuple):
+    """What is found of a source: its row, whether it passes, and what OpenSCAD makes of it."""
+
+    cells: list[str]
+    passes: bool | None
+    made: str
+    is_fine: bool
 
 
 def spent():
@@ -43,17 +57,14 @@ def spent():
     return used.ru_utime + used.ru_stime
 
 
-def limited():
-    """Ends a program of which no end is near, however busy the machine is."""
-    resource.setrlimit(resource.RLIMIT_CPU, (LONGEST, LONGEST))
-
-
-def timed(words):
-    """How many processor seconds a program takes, its status and what it says on standard error and output."""
+def timed(words, longest):
+    """How many processor seconds a program takes, its status and what it says on standard error and output. It is ended after
+    this many of them, however busy the machine is."""
     began = spent()
     done = subprocess.run(
-        words, stdin=subprocess.DEVNULL, stdout=subprocess.PIPE, stderr=subprocess.PIPE, check=False, preexec_fn=limited
-    )
+        words, stdin=subprocess.DEVNULL, stdout=subprocess.PIPE, stderr=subprocess.PIPE, check=False,
+        preexec_fn=lambda: resource.setrlimit(resource.RLIMIT_CPU, (longest, longest)),
+    )  # fmt: skip
     return spent() - began, done.returncode, done.stderr.decode("utf-8", "replace"), done.stdout.decode("utf-8", "replace")
 
 
@@ -64,37 +75,34 @@ def evaluated_form(file):
     return reader.printed(nodes, {it: os.path.join(os.path.dirname(os.path.abspath(file)), it) for it in names})
 
 
-def base_of(file, kept):
-    """Where what is kept of a source begins."""
-    return os.path.join(kept, os.path.splitext(os.path.basename(file))[0])
-
-
-def theirs(file, kept):
-    """OpenSCAD's mesh of a source as a text, "" where it makes none, and how long it takes; whether the source is a plan."""
-    base = base_of(file, kept)
+def theirs(file, base, longest):
+    """OpenSCAD's mesh of a source as a text, "" where it makes none, and how long it takes; whether the source is a plan, and
+    whether OpenSCAD says an error."""
     if not os.path.exists(base + ".time"):
-        took, status, said, _ = timed(["openscad", "--render", "-o", base + ".off", file])
+        took, status, said, _ = timed(["openscad", "--render", "-o", base + ".off", file], longest)
         is_plan = status != 0 and "not a 3D object" in said
         if is_plan:
             wrapped = base + "-plan.scad"
             with open(wrapped, "w", encoding="utf-8") as it:
                 it.write(f"linear_extrude(1) {{ {evaluated_form(file)} }}\n")
-            took, status, _, _ = timed(["openscad", "--render", "-o", base + ".off", wrapped])
+            took, status, said, _ = timed(["openscad", "--render", "-o", base + ".off", wrapped], longest)
         with open(base + ".time", "w", encoding="utf-8") as it:
-            it.write(f"{took:.2f} {is_plan}")
+            it.write(f"{took:.2f} {int(is_plan)} {int('ERROR' in said)}")
     with open(base + ".time", encoding="utf-8") as it:
-        took, is_plan = it.read().split()
-    if not os.path.exists(base + ".off"):
-        return "", float(took), is_plan == "True"
-    with open(base + ".off", encoding="utf-8") as it:
-        return it.read(), float(took), is_plan == "True"
+        took, is_plan, is_wrong = map(float, it.read().split())
+    mesh = ""
+    if os.path.exists(base + ".off"):
+        with open(base + ".off", encoding="utf-8") as it:
+            mesh = it.read()
+    return mesh, took, bool(is_plan), bool(is_wrong)
 
 
-def ours(file, folder):
+def ours(file, folder, asked):
     """Our text of a source, None where it is refused, how long it takes by the clock and of processors, and what is said."""
     out = os.path.join(folder, "part.4off")
     began = time.monotonic()
-    took, status, said, _ = timed([f"{TOP}/bin/scad2off", "--by-openscad", file, "-o", out])
+    jobs = ["--jobs", str(asked.jobs)] if asked.jobs else []
+    took, status, said, _ = timed([f"{TOP}/bin/scad2off", "--by-openscad", *jobs, file, "-o", out], asked.longest)
     by_clock = time.monotonic() - began
     if status != 0:
         return None, by_clock, took, said
@@ -116,37 +124,50 @@ def is_closed(text, folder):
     source, mesh = os.path.join(folder, "part.4off"), os.path.join(folder, "part.stl")
     with open(source, "wb") as it:
         it.write(text)
-    timed([f"{TOP}/bin/off2stl", source, "-o", mesh])
-    said = timed(["admesh", mesh])[3]
+    timed([f"{TOP}/bin/off2stl", source, "-o", mesh], resource.RLIM_INFINITY)
+    said = timed(["admesh", mesh], resource.RLIM_INFINITY)[3]
     return bool(re.search(r"Total disconnected facets +: +0 +0\n", said)) and bool(re.search(r"Facets added +: +0\n", said))
 
 
-def compared(file, kept):
-    """The row of a source, and whether it passes."""
+def meets_itself(mesh):
+    """Whether each edge of a mesh is met as often one way as the other."""
+    used = Counter(edge for a, b, c in mesh.triangles for edge in ((a, b), (b, c), (c, a)))
+    return all(times == used[q, p] for (p, q), times in used.items() if p != q)
+
+
+def compared(file, base, asked):
+    """What is found of a source, of which what is kept begins with `base`."""
     name = os.path.splitext(os.path.basename(file))[0]
     with tempfile.TemporaryDirectory() as folder:
-        mesh, their_time, is_plan = theirs(file, kept)
-        text, by_clock, our_time, said = ours(base_of(file, kept) + "-plan.scad" if is_plan else file, folder)
-        what, off, passes = "", "", False
+        mesh, their_time, is_plan, is_wrong = theirs(file, base, asked.longest)
+        body = of_off(mesh) if mesh else None
+        made = "nothing"
+        if body and body.volume():
+            made = "error" if is_wrong else ("closed" if meets_itself(body) else "open") + " plan" * is_plan
+        if asked.solids and made != "closed":
+            return Row([name, "", "", "", f"{their_time:.1f}", "", "", made, ""], None, made, False)
+        text, by_clock, our_time, said = ours(base + "-plan.scad" if is_plan else file, folder, asked)
+        what, off, passes, is_fine = "", "", False, False
         if text is None:
             refusal = re.search(r"error: (.+)", said)
             what = refusal[1] if refusal else said.strip()[-100:]
-            passes = not mesh
-        elif not mesh:
-            what = f"OpenSCAD makes no solid within {LONGEST} s of a processor"
+            passes = not body
+        elif not body:
+            what = f"OpenSCAD makes no solid within {asked.longest} s of a processor"
         else:
             distance, unit = off_and_unit(said)
-            body = of_4off(text, unit)
-            found = differences(body, of_off(mesh), distance)
+            our_body = of_4off(text, unit)
+            found = differences(our_body, body, distance)
             found += [] if is_closed(text, folder) else ["admesh finds it open"]
-            size = math.dist(*zip(*body.box()))
+            size = math.dist(*zip(*our_body.box()))
             off, what, passes = f"{distance:.2g} (1/{size / distance:.0f})", "; ".join(found), not found
+            is_fine = passes and distance * 1000 <= size
     tiles = re.search(r"made of (\d+) tiles", said)
     cells = [
         name + (" (1 high)" if is_plan else ""), "yes" if passes else "no", f"{by_clock:.1f}", f"{our_time:.1f}",
-        f"{their_time:.1f}", tiles[1] if tiles else "", off, what,
+        f"{their_time:.1f}", tiles[1] if tiles else "", off, made, what,
     ]  # fmt: skip
-    return f"| {' | '.join(cells)} |", passes
+    return Row(cells, passes, made, is_fine)
 
 
 def sources_of(asked):
@@ -160,6 +181,9 @@ def sources_of(asked):
 def main():
     parser = argparse.ArgumentParser(description="Compares --by-openscad with OpenSCAD.", allow_abbrev=False)
     parser.add_argument("--kept", metavar="DIR", help="where OpenSCAD's meshes are kept")
+    parser.add_argument("--jobs", type=int, metavar="N", help="how many tiles of a part are made at the same time")
+    parser.add_argument("--longest", type=int, default=600, metavar="SECONDS", help="how long a program may take")
+    parser.add_argument("--solids", action="store_true", help="make only those that are closed solids by OpenSCAD")
     parser.add_argument("files", nargs="*", metavar="FILE.scad", help="a source, or a folder of sources")
     asked = parser.parse_args()
     files = sources_of(asked.files) or sorted(glob.glob(f"{TOP}/bench/openscad/*.scad")) + sorted(glob.glob(EXAMPLES))
@@ -167,18 +191,24 @@ def main():
     if missing:
         print(f"not there: {', '.join(missing)}", file=sys.stderr)
         return 2
-    heads = ["Source", "Passes", "s", "s of processors", "s, OpenSCAD", "Tiles", "Off by at most", "Otherwise"]
+    heads = ["Source", "Passes", "s", "s of processors", "s, OpenSCAD", "Tiles", "Off by at most", "OpenSCAD's", "Otherwise"]
     print(f"| {' | '.join(heads)} |\n{'|---' * len(heads)}|", flush=True)
+    rows = []
     with tempfile.TemporaryDirectory() as folder:
-        if asked.kept:
-            os.makedirs(asked.kept, exist_ok=True)
-        rows = []
+        kept = os.path.abspath(asked.kept) if asked.kept else folder
+        os.makedirs(kept, exist_ok=True)
+        common = os.path.commonpath([os.path.dirname(it) for it in files])
         for file in files:
-            row, passes = compared(file, os.path.abspath(asked.kept) if asked.kept else folder)
-            print(row, flush=True)
-            rows.append(passes)
-    print(f"{sum(rows)} of {len(rows)} pass")
-    return 0 if all(rows) else 1
+            base = os.path.join(kept, os.path.splitext(os.path.relpath(file, common))[0].replace(os.sep, "-"))
+            rows.append(compared(file, base, asked))
+            print(f"| {' | '.join(rows[-1].cells)} |", flush=True)
+    compared_ones = [it for it in rows if it.passes is not None]
+    print(f"{sum(it.passes for it in compared_ones)} of {len(compared_ones)} pass")
+    for kind, name in (("closed", "solid"), ("closed plan", "solid, of a plan that is made 1 high,")):
+        those = [it for it in rows if it.made == kind]
+        fine = sum(it.is_fine for it in those)
+        print(f"{fine} of {len(those)} of which OpenSCAD makes a closed {name} pass within a thousandth")
+    return 0 if all(it.passes for it in compared_ones) else 1
 
 
 if __name__ == "__main__":

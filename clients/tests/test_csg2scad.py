@@ -263,7 +263,8 @@ class Refusals(unittest.TestCase):
             ("square(size = [1, 1], center = false);", "WrongDimension", "1:1: WrongDimension: square: the design is flat"),
             ("linear_extrude(height = 1) { cube(size = [1, 1, 1]); "
              "}", "Empty", "1:1: Empty: this design makes no solid at all"),
-            ("cube(size = [1, nan, 1]);", "BadArgument", "1:1: BadArgument: cube: size"),
+            ("cube(size = [1, true, 1]);", "BadArgument", "1:1: BadArgument: cube: size"),
+            ("cube(size = [1, nan, 1]);", "Empty", "1:1: Empty: this design makes no solid at all"),
             ("multmatrix([[1, 0, 0, 0], [0, 1, 0, 0], [0, 0, 1, 0], [0, 0, 1, 1]]) { cube(size = [1, 1, 1]); "
              "}", "BadArgument", "multmatrix"),
             (turned, "BadArgument", "1:1: BadArgument: rotate_extrude"),

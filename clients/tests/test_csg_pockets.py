@@ -135,6 +135,47 @@ class Sources(unittest.TestCase):
         mirrored = f"multmatrix([[-1, 0, 0, 0], [0, 1, 0, 0], [0, 0, 1, 0], [0, 0, 0, 1]]) {{ {text} }}"
         self.assertEqual(len(bodies(mirrored, 1)), len(bodies(text, 1)))
 
+    def test_faces_back_to_back_bound_nothing(self):
+        plain = box((0, 0, 0), (4, 2, 2))
+        (first,) = bodies(self.polyhedron(plain), 1)
+        sheet, line = [(0, 0, 0), (4, 0, 0), (4, 2, 2)], [(0, 0, 0), (4, 0, 0), (2, 0, 0)]
+        for flat in (sheet, line, [*sheet, (1, 1, 1)]):
+            extended = [*plain, flat, [*flat[:1], *flat[:0:-1]]]
+            self.assertEqual([it.facets for it in bodies(self.polyhedron(extended), 1)], [first.facets])
+        with self.assertRaises(CsgFault) as caught:
+            bodies(self.polyhedron([*plain, sheet]), 1)
+        self.assertEqual(caught.exception.word, "NotClosed")
+
+    def test_a_body_that_touches_itself_along_an_edge(self):
+        two = box((0, 0, 0), (2, 2, 2)) + box((2, 2, 0), (5, 5, 2))
+        found = bodies(self.polyhedron(two), 1)
+        self.assertEqual(sorted(volume6(it) for it in found), [6 * 8, 6 * 18])
+        for overlapping in (
+            box((0, 0, 0), (2, 2, 2)) * 2,
+            box((0, 0, 0), (4, 4, 4)) + box((0, 0, 0), (2, 2, 4)),
+            # (two wedges over one edge, of which each begins in the other)
+            prism([(0, 0), (4, 0), (4, 4)], 3) + prism([(0, 0), (4, 2), (0, 4)], 3),
+        ):
+            with self.assertRaises(CsgFault) as caught:
+                bodies(self.polyhedron(overlapping), 1)
+            self.assertEqual(caught.exception.word, "NotConvex")
+
+    def test_a_face_that_is_not_flat_is_cut_as_by_openscad(self):
+        # (one corner of a cube is higher: above it lies a triangle of the half of the upper face that has the corner)
+        points = [[x, y, z] for z in (0, 6) for y in (0, 6) for x in (0, 6)]
+        points[7][2] = 9
+        faces = [[0, 1, 3, 2], [0, 4, 5, 1], [2, 3, 7, 6], [0, 2, 6, 4], [1, 5, 7, 3]]
+        for upper, more in (([4, 6, 7, 5], 18), ([6, 7, 5, 4], 36)):
+            text = f"polyhedron(points = {points}, faces = {[*faces, upper]}, convexity = 1);"
+            (first, *others) = bodies(text, 1)
+            self.assertEqual(sum(volume6(it) for it in (first, *others)), 6 * (216 + more))
+        for move in ([1, 1, 6], [4, 4, 9]):
+            five = [*points, move]
+            text = f"polyhedron(points = {five}, faces = {[*faces[:-1], [1, 5, 8, 7, 3], [4, 6, 7, 8, 5]]}, convexity = 1);"
+            with self.assertRaises(CsgFault) as caught:
+                bodies(text, 1)
+            self.assertIn("isn't flat", caught.exception.said)
+
     def test_faces_that_go_through_one_another(self):
         crossed = prism(HOOK, 3) + prism([(0, 0), (2, 0), (1, 2)], 8, (0, 3, -2))
         with self.assertRaises(CsgFault) as caught:

@@ -6,8 +6,8 @@ import shutil
 import unittest
 from unittest import mock
 
-from scadserve.openscad.arguments import INSTEAD, PASSED_OVER, READ
-from scadserve.openscad.conversion import Wanted, converted
+from scadserve.openscad.arguments import PASSED_OVER, READ
+from scadserve.openscad.conversion import Wanted, converted, of_any_size
 from scadserve.openscad.front import Front
 from scadserve.openscad.reader import DEEPEST, CsgFault, read
 from scadserve.openscad.tree import fragments
@@ -73,13 +73,14 @@ class Told(Calls):
     @needs_openscad
     def test_a_fault_of_a_node_names_it_by_its_number(self):
         source = "cube(1);\ntranslate([1, 2, 3]) linear_extrude(\"plan.dxf\", height = 1);"
+        source = source.replace("plan.dxf", "plan.svg")
         said = (
-            "part.scad: error: BadArgument: node 3, linear_extrude: file is not an argument that is read here: import(..) "
-            "inside it reads a file"
+            "part.scad: error: BadArgument: node 3, linear_extrude: file names no .dxf file, and is read as one: import(..) "
+            "inside it reads others"
         )
         self.assert_fault(source, said, "openscad --render -o part.csg PART.scad writes the nodes")
         said = said.replace("node 3, linear_extrude", "node 1, rotate_extrude")
-        self.assert_fault('rotate_extrude(file = "plan.dxf");', said, "openscad")
+        self.assert_fault('rotate_extrude(file = "plan.svg");', said, "openscad")
 
     @needs_openscad
     def test_warnings_are_counted_last_or_are_faults(self):
@@ -185,9 +186,44 @@ class Forms(unittest.TestCase):
         for (name, argument), reason in PASSED_OVER.items():
             self.assertNotIn(argument, READ[name])
             self.assertGreater(len(reason.split()), 3)
-            self.assertEqual(read(f"{name}({argument}{' = ' * bool(argument)}1) ;")[0].name, name)
-        for name, argument in INSTEAD:
-            self.assertNotIn(argument, READ[name])
+            of_file = 'file = "plan.dxf", ' * (argument == "timestamp")
+            self.assertEqual(read(f"{name}({of_file}{argument}{' = ' * bool(argument)}1) ;")[0].name, name)
+
+    def test_an_extrusion_of_a_file_is_that_of_its_import(self):
+        named = 'file = "plan.dxf", layer = "cut", origin = [1, 2]'
+        [node] = read(f"linear_extrude({named}, scale = [2, 3], timestamp = 7, height = 4, $fn = 9);")
+        self.assertEqual(node.arguments, {"scale": [2.0, 3.0], "height": 4.0, "$fn": 9.0})
+        [plan] = node.children
+        of_plan = {"file": "plan.dxf", "layer": "cut", "origin": [1.0, 2.0], "scale": 2.0, "$fn": 9.0}
+        self.assertEqual((plan.name, plan.arguments), ("import", of_plan))
+        [node] = read(f"rotate_extrude({named}, scale = 2, angle = 90);")
+        self.assertEqual((node.arguments, node.children[0].arguments["scale"]), ({"angle": 90.0}, 2.0))
+        for text, said in (
+            ('linear_extrude(file = "plan.svg", height = 1);', "file names no .dxf file"),
+            ("rotate_extrude(scale = 2) { square(size = [1, 1]); }", "it has scale and no file"),
+            ('linear_extrude(file = "plan.dxf", height = 1) { square(size = [1, 1]); }', "a ; should stand here"),
+        ):
+            with self.assertRaises(CsgFault) as caught:
+                read(text)
+            self.assertIn(said, str(caught.exception))
+
+    def test_an_infinite_size_makes_nothing_and_is_told(self):
+        for shape in (
+            "cube(size = [inf, 1, 1]);", "sphere($fn = 8, r = nan);", "cylinder($fn = 8, h = 1, r1 = 1, r2 = inf);",
+            "linear_extrude(height = 1) { square(size = [1, nan]); }",
+            "linear_extrude(height = 1) { circle($fn = 8, r = inf); }",
+        ):  # fmt: skip
+            found = converted(read(CUBE + shape), Wanted(), Front("."))
+            self.assertEqual(found.text.count(b"cube("), 1)
+            self.assertNotIn(b"polygon", found.text)
+            self.assertTrue(any("since a size is infinite or undefined" in it for it in found.told), shape)
+        self.assertIn("Empty", self.fault("sphere($fn = 8, r = inf);"))
+
+    def test_slices_that_would_vanish_are_joined(self):
+        text = "linear_extrude(height = 30, scale = [2, 3], $fn = 0) { square(size = [200, 200]); }"
+        found = of_any_size(read(text), Wanted(), Front("."))
+        self.assertTrue(any("fewer slices, since they are thinner than the grid" in it for it in found.told))
+        self.assertFalse(any("without pieces" in it for it in found.told))
 
     def test_what_would_be_lost_is_refused(self):
         for text, said in (

@@ -72,8 +72,11 @@ class Reader:
     Where a design passes a limit of a source, its solid is made by tiles, or, where fewer corners are wanted, of these.
     """
 
-    def __init__(self, wanted: Wanted, unit: Fraction | None = None, tell: Callable[[str], None] = say) -> None:
-        self._wanted, self._unit, self._tell = wanted, unit, tell
+    def __init__(
+        self, wanted: Wanted, unit: Fraction | None = None, tell: Callable[[str], None] = say, may_import: bool = True
+    ) -> None:
+        """With what is wanted, the unit, what tells something, and whether a source may import files."""
+        self._wanted, self._unit, self._tell, self._may_import = wanted, unit, tell, may_import
         self._units: dict[str, Fraction | None] = {}
         self._evaluated: dict[str, _Evaluated] = {}
         self._warnings: dict[str, int] = {}
@@ -100,7 +103,11 @@ class Reader:
         self._tell(told)
         front = Front(os.path.dirname(os.path.abspath(file)), self._wanted.is_strict)
         try:
-            self._evaluated[file] = _Evaluated(read(csg), front, len(warnings))
+            nodes = read(csg)
+            importing = next((it for root in nodes for it in root.all() if "file" in it.arguments), None)
+            if importing and not self._may_import:
+                raise importing.fault("NotInProfile", "it reads a file, which OpenSCAD may not do here")
+            self._evaluated[file] = _Evaluated(nodes, front, len(warnings))
         except CsgFault as fault:
             raise _refused(file, fault) from fault
         return self._converted(file, PLANES)

@@ -142,7 +142,8 @@ def main(words: Sequence[str]) -> int:
 
     name, count, *rest = words
     folders, definitions = rest[: int(count)], rest[int(count) :]
-    reader = Reader(Wanted())
+    # (an extrusion may name a file without a word that is seen in the source)
+    reader = Reader(Wanted(), may_import=False)
     call = Call(
         "scadlive",
         [name],

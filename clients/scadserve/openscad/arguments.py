@@ -5,7 +5,8 @@ A node with another argument is refused: what that argument would change of the 
 
 from __future__ import annotations
 
-_CURVE = ["$fn", "$fa", "$fs"]
+CURVE = ["$fn", "$fa", "$fs"]
+_OF_DXF = ["file", "layer", "origin"]
 _FILE = ["file", "layer", "origin", "scale", "center", "dpi", "invert"]
 
 #: By the name of a node the arguments that its solid is made of; "" is the one without a name. OpenSCAD renders `text`,
@@ -15,34 +16,34 @@ READ: dict[str, list[str]] = {
     "multmatrix": [""],
     "resize": ["newsize", "auto"],
     "cube": ["size", "center"],
-    "sphere": [*_CURVE, "r"],
-    "cylinder": [*_CURVE, "h", "r1", "r2", "center"],
+    "sphere": [*CURVE, "r"],
+    "cylinder": [*CURVE, "h", "r1", "r2", "center"],
     "polyhedron": ["points", "faces"],
     "square": ["size", "center"],
-    "circle": [*_CURVE, "r"],
+    "circle": [*CURVE, "r"],
     "polygon": ["points", "paths"],
-    "linear_extrude": ["height", "center", "twist", "slices", "scale", *_CURVE],
-    "rotate_extrude": ["angle", *_CURVE],
-    "text": ["text", "size", "spacing", "font", "direction", "language", "script", "halign", "valign", *_CURVE],
-    "offset": ["r", "delta", "chamfer", *_CURVE],
+    "linear_extrude": ["height", "center", "twist", "slices", "scale", *_OF_DXF, *CURVE],
+    "rotate_extrude": ["angle", "scale", *_OF_DXF, *CURVE],
+    "text": ["text", "size", "spacing", "font", "direction", "language", "script", "halign", "valign", *CURVE],
+    "offset": ["r", "delta", "chamfer", *CURVE],
     "projection": ["cut"],
-    "import": [*_FILE, *_CURVE],
+    "import": [*_FILE, *CURVE],
     "surface": ["file", "center", "invert"],
 }
+#: By the name of a node its sizes, or its matrix: where one of these is infinite or undefined, OpenSCAD makes nothing of it.
+SIZES = {
+    "cube": ["size"], "sphere": ["r"], "cylinder": ["h", "r1", "r2"], "square": ["size"], "circle": ["r"], "multmatrix": [""]
+}  # fmt: skip
 #: Nodes in which no other node stands.
 LEAVES = {"cube", "sphere", "cylinder", "polyhedron", "square", "circle", "polygon", "text", "import", "surface"}
 _WITH_CONVEXITY = "polyhedron polygon linear_extrude rotate_extrude projection import surface render minkowski resize"
 _CONVEXITY = "how often a line goes into the shape at most: OpenSCAD's preview draws by it"
+_TIMESTAMP = "when the file was last changed: OpenSCAD's cache depends on it"
 #: By the name of a node and of an argument that no solid depends on why it doesn't.
 PASSED_OVER: dict[tuple[str, str], str] = {
     **{(name, "convexity"): _CONVEXITY for name in _WITH_CONVEXITY.split()},
-    ("import", "timestamp"): "when the file was last changed: OpenSCAD's cache depends on it",
-    ("surface", "timestamp"): "when the file was last changed: OpenSCAD's cache depends on it",
+    **{(name, "timestamp"): _TIMESTAMP for name in ("import", "surface", "linear_extrude", "rotate_extrude")},
     ("color", ""): "a colour, which no mesh of ours has",
-}
-#: What to write for an argument that OpenSCAD still reads and that is refused here.
-INSTEAD: dict[tuple[str, str], str] = {
-    (name, "file"): ": import(..) inside it reads a file" for name in ("linear_extrude", "rotate_extrude")
 }
 
 

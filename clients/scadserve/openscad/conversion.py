@@ -143,9 +143,7 @@ class _Converter:
 
     def conversion(self) -> Conversion:
         """The source, and what is said about it."""
-        detail = Detail()
-        solid = self._solid(detail)
-        unit = self._unit(solid)
+        detail, solid, unit = self._unbroken(Detail().most_sides)
         try:
             rounded = self._rounder.rounded(solid, unit)
         except TooMany as many:
@@ -154,9 +152,7 @@ class _Converter:
 
     def of_any_size(self) -> Conversion | Design:
         """The source, or the design where that has more planes or shapes than a source."""
-        detail = Detail(most_sides=math.inf)
-        solid = self._solid(detail)
-        unit = self._unit(solid)
+        detail, solid, unit = self._unbroken(math.inf)
         try:
             return self._source(solid, unit, detail, self._rounder.rounded(solid, unit))
         except TooMany:
@@ -164,9 +160,19 @@ class _Converter:
 
     def design(self) -> Design:
         """The design with all its corners, and what is said about it."""
-        detail = Detail(most_sides=math.inf)
+        detail, solid, unit = self._unbroken(math.inf)
+        return self._design(solid, unit, detail)
+
+    def _unbroken(self, most_sides: float) -> tuple[Detail, Solid, Fraction]:
+        """The design with all its corners and the step of its grid; where slices of extrusions are thinner than that, and would
+        vanish, with fewer slices."""
+        detail = Detail(most_sides=most_sides)
         solid = self._solid(detail)
-        return self._design(solid, self._unit(solid), detail)
+        unit = self._unit(solid)
+        if detail.lowest_slice < unit:
+            detail = Detail(most_sides=most_sides, least_slice=float(unit))
+            solid = self._solid(detail)
+        return detail, solid, unit
 
     def _source(self, solid: Solid, unit: Fraction, detail: Detail, rounded: Rounded) -> Conversion:
         tree = self._sound(solid, detail, rounded)
@@ -212,7 +218,7 @@ class _Converter:
             raise self._fault("TooCoarse", f"{said}: --tolerance {off * 1.06:.2g} allows that, or --fewer")
 
     def _told(self, unit: Fraction, detail: Detail, rounded: Rounded, steps: int = 1) -> list[str]:
-        left = [*_left_out_told(self._left_out), *_inward_told(detail)]
+        left = [*_left_out_told(self._left_out), *_thicker_told(detail), *_endless_told(detail), *_inward_told(detail)]
         return [_unit_told(unit, rounded, steps), *_fewer_told(detail), *_vanished(rounded), *left, *self._front.said]
 
     def _warnings(self) -> int:
@@ -359,6 +365,18 @@ def _vanished(rounded: Rounded) -> list[str]:
 
 def _left_out_told(left_out: Sequence[Node]) -> list[str]:
     return [f"left out, as OpenSCAD does, since {_MIXED}: {_named(left_out)}"] if left_out else []
+
+
+def _thicker_told(detail: Detail) -> list[str]:
+    named = [f"{node.called()} ({most} of {count})" for node, most, count in detail.thicker]
+    more = f" and {len(named) - _NAMED} more" if len(named) > _NAMED else ""
+    told = f"fewer slices, since they are thinner than the grid: {', '.join(named[:_NAMED])}{more}"
+    return [f"{told}; nothing is off by more than {detail.off:.2g}"] if named else []
+
+
+def _endless_told(detail: Detail) -> list[str]:
+    told = "nothing, as in OpenSCAD, since a size is infinite or undefined"
+    return [f"{told}: {_named(detail.endless)}"] if detail.endless else []
 
 
 def _inward_told(detail: Detail) -> list[str]:

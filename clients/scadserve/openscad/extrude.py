@@ -60,6 +60,7 @@ class Extrusion:
         self._past = 0.0 if is_level(matrix) else PAST
         self._radius = greatest(plan, math.hypot)
         self._count = self._slices(self._radius)
+        self._most = self._count
         self._is_fewer = self._may_cut = False
         self._around: list[tuple[float, float]] = []
         self._known: dict[tuple[Flat, ...], tuple[list[Loop], Carving | None]] = {}
@@ -74,17 +75,20 @@ class Extrusion:
         if steps:
             self._detail.note_steps(self._node, len(steps))
             return built(self._plan, lambda outline, _: self._in_steps(outline, steps))
+        if turns(self._node):
+            height = self._height * math.sqrt(sum(row[2] * row[2] for row in self._matrix))
+            self._most = self._detail.slices(self._node, height, self._count)
         kept = self._kept()
         self._is_fewer = len(kept) <= self._count
         self._may_cut = turns(self._node) and self._detail.may_cut((len(kept) - 1) * self._sides())
-        self._detail.note(self._node, len(kept) - 1, self._count)
+        self._detail.note(self._node, len(kept) - 1, self._most)
         return built(self._plan, lambda outline, is_cut: self._extruded(outline, [it / self._count for it in kept], is_cut))
 
     def _kept(self) -> list[int]:
         """The levels that are kept: with as few between the ends as may be left out."""
         most = self._detail.most
         # (between too few and enough; each more than the last by which a way between two is less off)
-        few, enough = 0, self._count
+        few, enough = 0, self._most
         while most and enough - few > 1:
             middle = (few + enough) // 2
             few, enough = (few, middle) if self._off_of(self._spread(middle)) <= most else (middle, enough)

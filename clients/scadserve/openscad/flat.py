@@ -61,6 +61,8 @@ class Plane:
         return Plane(Detail(self._detail.most), self._render)
 
     def _plan(self, node: Node, matrix: Matrix) -> Plan | None:
+        if self._detail.is_endless(node):
+            return None
         if node.name == "multmatrix":
             return self.plan(node.shown(), times(matrix, matrix_of(node)))
         if node.name in ("group", "union", "color", "render"):

@@ -117,7 +117,8 @@ class Front:
         places: dict[str, str] = {}
         for it in node.all():
             file = it.arguments.get("file")
-            if isinstance(file, str):
+            # (OpenSCAD warns of an empty name, and makes nothing of it)
+            if isinstance(file, str) and file:
                 places[file] = os.path.abspath(os.path.join(self._folder, file))
                 if os.path.exists(places[file]) and not os.path.isfile(places[file]):
                     raise it.fault("NoFile", f"{file} is not an ordinary file")

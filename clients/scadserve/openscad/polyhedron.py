@@ -7,6 +7,7 @@ triangles.
 
 from __future__ import annotations
 
+from collections import Counter
 from functools import partial
 from typing import Callable, NamedTuple, Sequence
 
@@ -98,21 +99,22 @@ def cut(node: Node, places: Sequence[Vector], faces: Sequence[Sequence[int]]) ->
 def seen(node: Node, places: Sequence[Vector], faces: Sequence[Sequence[int]]) -> Parts | Surface:
     """What makes the convex parts of a polyhedron where some point sees all faces, or else its surface. Raises CsgFault."""
     points, numbers = _merged(places)
-    rings = [[numbers[it] for at, it in enumerate(face) if numbers[it] != numbers[face[at - 1]]] for face in faces]
+    rings = _single([[numbers[it] for at, it in enumerate(face) if numbers[it] != numbers[face[at - 1]]] for face in faces])
+    rings = _flat_rings(node, points, rings)
     # (turned round, so that triangles go counterclockwise as seen from outside)
     triangles = [(ring[0], c, b) for ring in rings for b, c in zip(ring[1:], ring[2:])]
     triangles = [it for it in triangles if len(set(it)) == 3]
     if not triangles:
         return list
-    _check_closed(node, rings)
+    is_simple = _is_simple(node, rings)
     if sum(_volume6((0, 0, 0), [points[it] for it in triangle]) for triangle in triangles) <= 0:
         raise node.fault("NotConvex", "its faces bound no volume: they go clockwise round their corners as seen from outside")
     planes = [it for it in (_plane([points[it] for it in triangle]) for triangle in triangles) if it]
     size = max(max(abs(it) for it in point) for point in points)
     used = sorted({it for ring in rings for it in ring})
-    if all(_height(plane, points[it]) <= _FLAT * size for plane in planes for it in used):
+    if is_simple and all(_height(plane, points[it]) <= _FLAT * size for plane in planes for it in used):
         return partial(_placed, [[points[it] for it in used]])
-    eye = _eye(planes, [points[it] for it in used])
+    eye = _eye(planes, [points[it] for it in used]) if is_simple else None
     if eye is None and len(triangles) > _MOST_TRIANGLES:
         what = f"it isn't convex, and has {len(triangles)} triangles: {_MOST_TRIANGLES} are looked at"
         raise node.fault("TooManyPlanes", what)
@@ -143,12 +145,65 @@ def _place(point: Sequence[int]) -> Vector:
     return point[0] / FINE, point[1] / FINE, point[2] / FINE
 
 
-def _check_closed(node: Node, rings: Sequence[Sequence[int]]) -> None:
-    """Raises CsgFault where the faces don't go along each edge once one way and once the other."""
-    ways = [way for ring in rings for way in zip(ring, [*ring[1:], *ring[:1]])]
-    known = set(ways)
-    if len(known) < len(ways) or any(way[::-1] not in known for way in known):
+def _single(rings: list[list[int]]) -> list[list[int]]:
+    """The faces without those that lie back to back, which bound nothing."""
+    left: dict[tuple[int, ...], list[int]] = {}
+    for number, ring in enumerate(rings):
+        opposite = left.get(_turned(ring[::-1]))
+        if opposite:
+            opposite.pop()
+        else:
+            left.setdefault(_turned(ring), []).append(number)
+    return [rings[it] for it in sorted(number for numbers in left.values() for number in numbers)]
+
+
+def _flat_rings(node: Node, points: Sequence[exact_hull.Point], rings: list[list[int]]) -> list[list[int]]:
+    """The faces, of which convex ones with four corners that aren't flat are cut from the second to the fourth, as by OpenSCAD.
+
+    Raises CsgFault at another face that isn't flat: it is not known how OpenSCAD cuts it.
+    """
+    size = max((max(abs(it) for it in point) for point in points), default=0)
+    found: list[list[int]] = []
+    for ring in rings:
+        corners = [points[it] for it in ring]
+        normal = _normal(corners)
+        length = sum(float(it) * it for it in normal) ** 0.5
+        heights = [exact_hull.dot(normal, exact_hull.less(it, corners[0])) / length if length else 0.0 for it in corners]
+        if len(ring) < 4 or max(heights) - min(heights) <= 3 * _FLAT * size:
+            found.append(ring)
+            continue
+        bends = [_normal([corners[at - 1], corners[at], corners[(at + 1) % len(ring)]]) for at in range(len(ring))]
+        if len(ring) > 4 or any(exact_hull.dot(normal, it) <= 0 for it in bends):
+            raise node.fault("NotConvex", "a face of it isn't flat: give its triangles")
+        a, b, c, d = ring
+        found += [[a, b, d], [b, c, d]]
+    return found
+
+
+def _normal(corners: Sequence[exact_hull.Point]) -> exact_hull.Point:
+    """The direction across a closed line, as long as twice its area."""
+    normal = (0, 0, 0)
+    for p, q in zip(corners, [*corners[1:], *corners[:1]]):
+        x, y, z = exact_hull.cross(exact_hull.less(p, corners[0]), exact_hull.less(q, corners[0]))
+        normal = (normal[0] + x, normal[1] + y, normal[2] + z)
+    return normal
+
+
+def _turned(ring: Sequence[int]) -> tuple[int, ...]:
+    """The same closed line, from its least corner on."""
+    first = min(range(len(ring)), key=ring.__getitem__, default=0)
+    return (*ring[first:], *ring[:first])
+
+
+def _is_simple(node: Node, rings: Sequence[Sequence[int]]) -> bool:
+    """Whether faces go along each edge once one way and once the other, and not more often, as where a body touches itself.
+
+    Raises CsgFault where they don't go along it equally often both ways.
+    """
+    ways = Counter(way for ring in rings for way in zip(ring, [*ring[1:], *ring[:1]]))
+    if any(times != ways[way[::-1]] for way, times in ways.items()):
         raise node.fault("NotClosed", "its faces do not close a body")
+    return max(ways.values(), default=1) == 1
 
 
 def _check_uncrossed(node: Node, points: Sequence[exact_hull.Point], triangles: Sequence[Triangle]) -> None:

@@ -10,10 +10,10 @@ from __future__ import annotations
 import math
 import re
 from bisect import bisect_right
-from dataclasses import dataclass, field
-from typing import Iterator, Union
+from dataclasses import dataclass, field, replace
+from typing import Iterator, Sequence, Union
 
-from .arguments import INSTEAD, LEAVES, READ, is_taken
+from .arguments import CURVE, LEAVES, READ, is_taken
 
 #: A number, a truth, a text, `undef` as None, or a list of these.
 Value = Union[float, bool, str, None, "list[Value]"]
@@ -103,6 +103,13 @@ class Node:
             found.append(int(it))
         return found
 
+    def is_endless(self, names: Sequence[str]) -> bool:
+        """Whether one of these arguments is, or holds, what is infinite or undefined."""
+        found: list[Value] = [self.arguments.get(it) for it in names]
+        while any(isinstance(it, list) for it in found):
+            found = [number for it in found for number in (it if isinstance(it, list) else [it])]
+        return any(isinstance(it, float) and not math.isfinite(it) for it in found)
+
     def truth(self, name: str) -> bool:
         """A truth, false where none is given. Raises CsgFault."""
         value = self.arguments.get(name, False)
@@ -178,11 +185,11 @@ def read(text: str) -> list[Node]:
             within.pop()
             continue
         count += 1
-        node = _head(tokens, count)
+        node = _with_import(_head(tokens, count))
         if count > MOST_NODES:
             raise node.fault("TooManyNodes", f"the design has more than {MOST_NODES} nodes")
         within[-1].append(node)
-        if node.name in LEAVES or (tokens.kind == "symbol" and tokens.word == ";"):
+        if node.name in LEAVES or node.children or (tokens.kind == "symbol" and tokens.word == ";"):
             tokens.take(";")
             continue
         tokens.take("{")
@@ -224,10 +231,31 @@ def _head(tokens: _Tokens, ordinal: int) -> Node:
                 f"{key or 'an argument without a name'} is "
                 f"{'given twice' if key in arguments else 'not an argument that is read here'}"
             )
-            raise CsgFault(line_of, column_of, "BadArgument", f"{name}: {what}{INSTEAD.get((name, key), '')}", ordinal)
+            raise CsgFault(line_of, column_of, "BadArgument", f"{name}: {what}", ordinal)
         arguments[key] = value
     tokens.next()
     return Node(name, arguments, marks, line, column, ordinal=ordinal)
+
+
+def _with_import(node: Node) -> Node:
+    """An extrusion that names a file itself with the import of that file in it; any other node as it is. Raises CsgFault.
+
+    OpenSCAD reads a DXF file for it, with the extrusion's fragments and the first factor of its scale.
+    """
+    if not node.name.endswith("_extrude"):
+        return node
+    file, scale = node.arguments.get("file"), node.arguments.get("scale", 1.0)
+    of_file = ["file", "layer", "origin", "timestamp", *(["scale"] if node.name == "rotate_extrude" else [])]
+    if file is None and any(it in node.arguments for it in of_file):
+        raise node.fault("BadArgument", f"it has {', '.join(it for it in of_file if it in node.arguments)} and no file")
+    if file is None:
+        return node
+    if not isinstance(file, str) or not file.lower().endswith(".dxf"):
+        raise node.fault("BadArgument", "file names no .dxf file, and is read as one: import(..) inside it reads others")
+    given: dict[str, Value] = {it: node.arguments[it] for it in ("layer", "origin", *CURVE) if it in node.arguments}
+    given = {"file": file, "scale": scale[0] if isinstance(scale, list) and scale else scale, **given}
+    kept = {name: value for name, value in node.arguments.items() if name not in of_file}
+    return replace(node, arguments=kept, children=[Node("import", given, "", node.line, node.column, ordinal=node.ordinal)])
 
 
 def _argument(tokens: _Tokens) -> tuple[str, Value]:

@@ -39,6 +39,8 @@ class Space:
         return joined(UNION, [self._solid(it, matrix) for it in nodes])
 
     def _solid(self, node: Node, matrix: Matrix) -> Solid | None:
+        if self._detail.is_endless(node):
+            return None
         if node.name == "multmatrix":
             return self.solid(node.shown(), times(matrix, matrix_of(node)))
         if node.name in ("group", "union", "color", "render"):

@@ -13,6 +13,7 @@ from dataclasses import dataclass, field
 from functools import cached_property
 from typing import AbstractSet, Any, Callable, Generic, Iterable, Iterator, List, Optional, Sequence, TypeVar, Union, overload
 
+from .arguments import SIZES
 from .reader import Node
 
 Vector = tuple[float, float, float]
@@ -268,6 +269,13 @@ class Detail:
     hulls: list[Node] = field(default_factory=list)
     #: Polyhedra whose faces looked inward, and were turned.
     inward: list[Node] = field(default_factory=list)
+    #: Shapes of which nothing is made, since a size of theirs is infinite or undefined.
+    endless: list[Node] = field(default_factory=list)
+    #: How high a slice of what turns or is scaled on the way is at least; lower ones are joined, so that none vanishes.
+    least_slice: float = 0.0
+    #: How high the lowest slice is, and extrusions of which slices were joined: how many are left of how many.
+    lowest_slice: float = math.inf
+    thicker: list[tuple[Node, int, int]] = field(default_factory=list)
     #: This many sides of slices may be cut into convex parts; more have more planes than a part may have.
     most_sides: float = _MOST_SIDES
     _besides: float = 0.0
@@ -318,6 +326,21 @@ class Detail:
         """Notes that the faces of a polyhedron looked inward, and were turned."""
         if node not in self.inward:
             self.inward.append(node)
+
+    def is_endless(self, node: Node) -> bool:
+        """Whether a size of a shape is infinite or undefined, which is noted."""
+        found = node.is_endless(SIZES.get(node.name, []))
+        if found and node not in self.endless:
+            self.endless.append(node)
+        return found
+
+    def slices(self, node: Node, height: float, count: int) -> int:
+        """How many slices an extrusion of a height is made of at most, of which OpenSCAD makes this many."""
+        self.lowest_slice = min(self.lowest_slice, height / count)
+        most = count if height >= count * self.least_slice else max(1, int(height / self.least_slice))
+        if most < count and not any(it[0] is node for it in self.thicker):
+            self.thicker.append((node, most, count))
+        return most
 
     def may_cut(self, sides: int) -> bool:
         """Whether slices with this many sides may be cut into convex parts: where so few are that two planes each suffice."""

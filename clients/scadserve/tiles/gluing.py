@@ -11,6 +11,7 @@ solids are none of one design, and are refused. Faces of one plane on both sides
 
 from __future__ import annotations
 
+import gc
 from dataclasses import dataclass
 from math import gcd
 from typing import AbstractSet, Iterable, Sequence
@@ -100,10 +101,17 @@ def _common(walls: Sequence[int], face: Sequence[int]) -> int:
 
 def glued(parts: Iterable[Part]) -> Surface:
     """The closed surface of parts. Raises NotClosed where these don't fit one another."""
-    whole = _Gluing()
-    for it in parts:
-        whole.add(it)
-    return whole.closed()
+    # (nothing here refers to itself, and a search for such things would walk over all corners again and again)
+    was_searching = gc.isenabled()
+    gc.disable()
+    try:
+        whole = _Gluing()
+        for it in parts:
+            whole.add(it)
+        return whole.closed()
+    finally:
+        if was_searching:
+            gc.enable()
 
 
 class _Gluing:
