@@ -1,4 +1,4 @@
-//! The grammar of the modelling language, the depth of its tokens, and the laws of reading it from the front.
+//! The grammar of the language as a relation between tokens and programs, and how deep tokens stand.
 #![tactic(auto)]
 
 ghost use Rattle.std.specs.Prelude.{◌≡◌, ◌≤◌, ℕ, suc, List, length, true, ◌⊎◌};

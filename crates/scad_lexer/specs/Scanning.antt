@@ -20,12 +20,12 @@ is_of_class Sign byte = nat_eq byte 43 || nat_eq byte 45
 is_of_class Printable byte = nat_le 32 byte && nat_le byte 126
 is_of_class (Byte only) byte = nat_eq byte only
 
--- the first byte is so
+-- the first byte passes the test
 abbrev pub begins_with : (ℕ → Bool) → List ℕ → Bool
 begins_with test [] = false
 begins_with test (byte ∷ bytes) = test byte
 
--- all are so
+-- all pass the test
 abbrev pub all_bytes : (ℕ → Bool) → List ℕ → Bool
 all_bytes test [] = true
 all_bytes test (byte ∷ bytes) = cond (test byte) (all_bytes test bytes) false
@@ -74,7 +74,7 @@ abbrev pub after_point : List ℕ → Option Word
 after_point [] = Some (SymbolWord Dot)
 after_point (byte ∷ bytes) = cond (is_digit_byte byte) (in_fraction bytes) None
 
--- after the opening quote of a text: a backslash takes the next byte with it, and a newline ends nothing
+-- after the opening quote of a text: a backslash takes the next byte with it, and no newline is in it
 unfoldable mutual
   pub in_text : List ℕ → Option Word
   in_text [] = Some UnclosedText
@@ -106,7 +106,7 @@ abbrev pub after_dollar : List ℕ → Option Word
 after_dollar [] = None
 after_dollar (byte ∷ bytes) = cond (is_letter_byte byte) (word_where (all_bytes is_name_byte bytes) Special) None
 
--- the symbol of one byte
+-- the symbol of one byte but for `.` and `/`, which are read apart
 abbrev pub one_byte_symbol : ℕ → Option Symbol
 one_byte_symbol byte =
     cond (nat_eq byte 40) (Some OpenParenthesis) (cond (nat_eq byte 41) (Some CloseParenthesis)
@@ -153,7 +153,7 @@ word_from byte bytes =
     (cond (nat_eq byte 46) (after_point bytes)
     (cond (nat_eq byte 47) (after_slash bytes) (symbol_of byte bytes)))))))
 
--- what these bytes are, if they are one word
+-- what these bytes are, if they are one word: byte by byte
 abbrev pub word_read : List ℕ → Option Word
 word_read [] = None
 word_read (byte ∷ bytes) = word_from byte bytes

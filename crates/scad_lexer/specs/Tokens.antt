@@ -50,7 +50,7 @@ abbrev pub numeral_or_too_large : ℕ → WordMeaning
 numeral_or_too_large n = cond (nat_lt n least_too_large) (OneToken (NumeralToken n)) (BadWord TooLarge 0)
 
 -- what a numeral stands for: its whole part where only zeros are behind its point; else, and with an exponent, NotWhole;
--- above 2^53 - 1 it is TooLarge
+-- a whole one above 2^53 - 1 is TooLarge
 abbrev pub numeral_meaning : List ℕ → WordMeaning
 numeral_meaning bytes = cond (zero_fraction (drop (run_of is_digit_byte bytes) bytes)) (numeral_or_too_large (decimal_from 0 (take (run_of is_digit_byte bytes) bytes))) (BadWord NotWhole 0)
 

@@ -9,7 +9,7 @@ use Rattle.scad_lexer.specs.declared.word.Word.TheVariants.{Blank, UnclosedComme
 abbrev pub is_blank_byte : ℕ → Bool
 is_blank_byte byte = nat_eq byte 32 || nat_eq byte 9 || nat_eq byte 13 || nat_eq byte 10
 
--- a letter or `_`
+-- `A` to `Z`, `a` to `z` or `_`
 abbrev pub is_letter_byte : ℕ → Bool
 is_letter_byte byte = (nat_le 65 byte && nat_le byte 90) || (nat_le 97 byte && nat_le byte 122) || nat_eq byte 95
 
@@ -21,12 +21,13 @@ is_digit_byte byte = nat_le 48 byte && nat_le byte 57
 abbrev pub is_name_byte : ℕ → Bool
 is_name_byte byte = is_letter_byte byte || is_digit_byte byte
 
--- how many at the front are so
+-- how many at the front pass the test
 abbrev pub run_of : (ℕ → Bool) → List ℕ → ℕ
 run_of test [] = 0
 run_of test (byte ∷ bytes) = cond (test byte) (suc (run_of test bytes)) 0
 
--- a regular expression: no byte, a byte that is so, a sequence, a choice, a repetition, and where another doesn't match
+-- a regular expression: no byte, a byte that passes the test, a sequence, a choice, a repetition, and one that takes no byte,
+-- where another expression matches nothing that begins here
 pub data Expression : Type 0 where
   Empty : Expression
   One : (ℕ → Bool) → Expression
@@ -80,13 +81,14 @@ some_digits = Then (One is_digit_byte) (Many (One is_digit_byte))
 abbrev pub exponent_part : Expression
 exponent_part = Then (One (λ c. nat_eq c 101 || nat_eq c 69)) (Then (Either Empty (One (λ c. nat_eq c 43 || nat_eq c 45))) some_digits)
 
--- digits with or without a point and more of them, or a point and digits; with or without an exponent
+-- digits, perhaps with a point and any number of digits behind it, or a point and digits; then an exponent or none
 abbrev pub numeral_word : Expression
 numeral_word =
     Then (Either (Then some_digits (Either Empty (Then (literal (codes ".")) (Many (One is_digit_byte))))) (Then (literal (codes ".")) some_digits))
     (Either Empty exponent_part)
 
--- a text without its end: a quote, and bytes of its line, where a backslash takes the next byte with it
+-- a text without its end: a quote, and bytes of its line but for quotes, where a backslash takes the next byte with it, a
+-- quote too
 abbrev pub open_text : Expression
 open_text =
     Then (literal (codes "\"")) (Many (Either (Then (literal (codes "\\")) in_line) (One (λ c. not (nat_eq c 34 || nat_eq c 92 || nat_eq c 10)))))
@@ -101,7 +103,9 @@ symbols =
     ∷ (codes "^", Caret) ∷ (codes ".", Dot) ∷ (codes "/", Divide) ∷ (codes "<=", LessEqual) ∷ (codes ">=", GreaterEqual)
     ∷ (codes "==", Equal) ∷ (codes "!=", NotEqual) ∷ (codes "&&", And) ∷ (codes "||", Or) ∷ []
 
--- the other words, by what they match: a blank is a blank byte, a comment to its line's end, or one to its first `*/`
+-- all words but the symbols, by what they match. A blank is a blank byte, a comment to its line's end, or one to its first `*/`.
+-- Where a comment or a text is closed, a shorter front of it is unclosed; the longest word counts. An unclosed text may end at a
+-- backslash: before a newline and at the end of the source there is no byte that this takes with it.
 abbrev pub words : List (Expression × Word)
 words =
     (Either (One is_blank_byte) (Either (Then (literal (codes "//")) (Many in_line)) (Then open_comment (literal (codes "*/")))), Blank)
@@ -118,7 +122,7 @@ first_match (row ∷ rows) bytes = cond (matches row.0 is_empty bytes) (Some row
 unfoldable pub word_of_bytes : List ℕ → Option Word
 word_of_bytes bytes = first_match (words ++ map (λ row. (literal row.0, SymbolWord row.1)) symbols) bytes
 
--- the first n bytes are this word, and no more bytes are any
+-- the first n bytes are this word, and no longer front of the text is a word
 pub record IsLongest (text : List ℕ) (n : ℕ) (word : Word) : Type 0 where
   pub within : n ≤ length text
   pub found : word_of_bytes (take n text) ≡ Some word
