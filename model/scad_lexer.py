@@ -19,8 +19,8 @@ symbols = (
     b"(", b")", b"[", b"]", b"{", b"}", b",", b";", b"=", b":", b"?", b"+", b"-", b"*", b"%", b"<", b">", b"!", b"#", b"^",
     b".", b"/", b"<=", b">=", b"==", b"!=", b"&&", b"||")
 
-# Each word as long as possible: no part behind another one can take a byte from it. The first that matches is taken, so a closed
-# one stands before an unclosed one, and symbols stand last. Blank bytes are taken together.
+# Each word as long as possible: no part behind another one can take a byte from it. The first that matches is taken, so closed
+# words stand before unclosed ones, and symbols last. Blank bytes are taken together.
 words = (
     rb"(?P<Blank>[ \t\r\n]+|//%b*|%b\*/)" % (in_line, open_comment),
     rb"(?P<UnclosedComment>%b)" % open_comment,
