@@ -103,9 +103,9 @@ symbols =
     ∷ (codes "^", Caret) ∷ (codes ".", Dot) ∷ (codes "/", Divide) ∷ (codes "<=", LessEqual) ∷ (codes ">=", GreaterEqual)
     ∷ (codes "==", Equal) ∷ (codes "!=", NotEqual) ∷ (codes "&&", And) ∷ (codes "||", Or) ∷ []
 
--- all words but the symbols, by what they match. A blank is a blank byte, a comment to its line's end, or one to its first `*/`.
--- Where a comment or a text is closed, a shorter front of it is unclosed; the longest word counts. An unclosed text may end at a
--- backslash: before a newline and at the end of the source there is no byte that this takes with it.
+-- all words but the symbols, by what they match. A blank is a blank byte, a comment to its line's end, or one to the first
+-- `*/`. Of a comment or a text that is closed a shorter front is unclosed; the longest word counts. An unclosed text may end
+-- at a backslash: before a newline and at the end of the source there is no byte that this takes with it.
 abbrev pub words : List (Expression × Word)
 words =
     (Either (One is_blank_byte) (Either (Then (literal (codes "//")) (Many in_line)) (Then open_comment (literal (codes "*/")))), Blank)
