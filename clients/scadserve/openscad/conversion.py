@@ -4,9 +4,9 @@ told.
     conversion = converted(csg_reader.read(text), Wanted(), openscad_front.Front(folder))
     conversion.text, conversion.unit, conversion.told
 
-The grid is the finest of a list on which all corners have room, or a coarser one of it on which no corner moves. Where more
-planes or shapes come of it than a source may have, a design is one of any size (`of_any_size`), or corners of curves are left
-out, by as little as suffices (`converted`).
+The grid is the finest of a list on which all corners have room, or a coarser one of it on which no corner moves. Steps below
+1/1000 are for small parts of which corners move on that. Where more planes or shapes come of it than a source may have, a design
+is one of any size (`of_any_size`), or corners of curves are left out, by as little as suffices (`converted`).
 """
 
 from __future__ import annotations
@@ -249,9 +249,10 @@ class _Converter:
             raise self._fault(
                 "OutOfRange", f"a corner is {greatest:.6g} from the origin, and with units of {units[-1]} {ROOM} have room"
             )
-        still = [it for it in fitting[:6] if _is_still(all_leaves, it) and _is_still(leaves(solid), it)]
         small = [it for it in SMALL_UNITS if greatest <= room * float(it)] if self._wanted.unit is None else []
-        return [*still, *small, *fitting][0]
+        tried = [UNITS[0], *small[::-1]] if small else fitting[:6]
+        still = (it for it in tried if _is_still(all_leaves, it) and _is_still(leaves(solid), it))
+        return next(still, [*small, *fitting][0])
 
     def _within(self, solid: Solid, unit: Fraction, whole: Detail, many: TooMany) -> tuple[Fraction, Detail, Rounded]:
         """The design, which is of all detail, with no more planes and shapes than a part may have. Raises CsgFault."""

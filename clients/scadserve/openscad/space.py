@@ -150,14 +150,10 @@ class Space:
 
     def _hull(self, node: Node, matrix: Matrix) -> Solid | None:
         clouds = [_cloud(it, matrix) for it in node.shown()]
-        if clouds and all(it is not None for it in clouds):
-            corners = [place for it in clouds for place in it or []]
-            return Leaf(_corners(corners), frame_of(matrix), node) if corners else None
-        within = self.solid(node.shown(), matrix)
-        if within is None:
-            return None
-        if is_union(within):
-            corners = [corner for leaf in leaves(within) for corner in leaf.corners]
+        within = [None if cloud else self._solid(it, matrix) for cloud, it in zip(clouds, node.shown())]
+        if all(it is None or is_union(it) for it in within):
+            corners = [corner for it in within for leaf in leaves(it) for corner in leaf.corners]
+            corners += [corner for cloud in clouds for corner in cloud or []]
         else:
             corners = moved(matrix, self._render_solid(node)[0])
         return Leaf(_corners(corners), frame_of(matrix), node) if corners else None
@@ -211,7 +207,7 @@ class Space:
 def _cloud(node: Node, matrix: Matrix) -> list[Vector] | None:
     """The corners of the faces of a polyhedron alone, moved: of these OpenSCAD makes a hull, whether or not the faces close a
     body. None where a node is something else. Raises CsgFault."""
-    while node.name in ("multmatrix", "group", "color") and len(node.shown()) == 1:
+    while node.name in ("multmatrix", "group", "union", "color") and len(node.shown()) == 1:
         if node.is_endless(SIZES.get(node.name, [])):
             return None
         matrix = times(matrix, matrix_of(node)) if node.name == "multmatrix" else matrix
