@@ -5,8 +5,8 @@ told.
     conversion.text, conversion.unit, conversion.told
 
 The grid is the finest of a list on which all corners have room, or a coarser one of it on which no corner moves. Steps below
-1/1000 are for small parts of which corners move on that. Where more planes or shapes come of it than a source may have, a design
-is one of any size (`of_any_size`), or corners of curves are left out, by as little as suffices (`converted`).
+1/1000 are for small parts of which corners move on that. Where more planes or shapes come of it than a source may have, a
+design is one of any size (`of_any_size`), or corners of curves are left out, by as little as suffices (`converted`).
 """
 
 from __future__ import annotations
