@@ -171,11 +171,14 @@ def compared(file, base, asked):
 
 
 def sources_of(asked):
-    """The files that are asked for, of folders all sources in them."""
+    """The files that are asked for, of folders all sources in them, each once however many links lead to it."""
     found = []
     for it in asked:
         found += sorted(glob.glob(f"{glob.escape(it)}/**/*.scad", recursive=True)) if os.path.isdir(it) else [it]
-    return [os.path.abspath(it) for it in found]
+    once = {}
+    for it in found:
+        once.setdefault(os.path.realpath(it), os.path.abspath(it))
+    return list(once.values())
 
 
 def main():
