@@ -110,13 +110,13 @@ def ours(file, folder, asked):
         return it.read(), by_clock, took, said
 
 
-def off_and_unit(said):
-    """How far a point may be off, and the unit, of what the last conversion said."""
+def off_and_unit(said, size):
+    """How far a point of a part of a size may be off, and the unit, of what the last conversion said."""
     said = said[said.rindex(": on a grid of ") :]
     unit = Fraction(re.search(r": on a grid of ([\d/]+)", said)[1])
     found = [re.search(pattern, said) for pattern in (r"moved by ([\d.e+-]+)", r"off by more than ([\d.e+-]+)")]
-    # (two digits are told, and corners that have not moved are within a fiftieth of a step)
-    return sum(float(it[1]) * 1.06 for it in found if it) + float(unit) * 0.03 + 1e-4, float(unit)
+    # (two digits are told, corners that have not moved are within a fiftieth of a step, and OpenSCAD's meshes have six digits)
+    return sum(float(it[1]) * 1.06 for it in found if it) + float(unit) * 0.03 + min(1e-4, 1e-5 * size), float(unit)
 
 
 def is_closed(text, folder):
@@ -155,11 +155,11 @@ def compared(file, base, asked):
         elif not body:
             what = f"OpenSCAD makes no solid within {asked.longest} s of a processor"
         else:
-            distance, unit = off_and_unit(said)
+            size = math.dist(*zip(*body.box()))
+            distance, unit = off_and_unit(said, size)
             our_body = of_4off(text, unit)
             found = differences(our_body, body, distance)
             found += [] if is_closed(text, folder) else ["admesh finds it open"]
-            size = math.dist(*zip(*our_body.box()))
             off, what, passes = f"{distance:.2g} (1/{size / distance:.0f})", "; ".join(found), not found
             is_fine = passes and distance * 1000 <= size
     tiles = re.search(r"made of (\d+) tiles", said)
@@ -171,11 +171,14 @@ def compared(file, base, asked):
 
 
 def sources_of(asked):
-    """The files that are asked for, of folders all sources in them."""
+    """The files that are asked for, of folders all sources in them, each once however many links lead to it."""
     found = []
     for it in asked:
         found += sorted(glob.glob(f"{glob.escape(it)}/**/*.scad", recursive=True)) if os.path.isdir(it) else [it]
-    return [os.path.abspath(it) for it in found]
+    once = {}
+    for it in found:
+        once.setdefault(os.path.realpath(it), os.path.abspath(it))
+    return list(once.values())
 
 
 def main():

@@ -154,6 +154,26 @@ class Joins(unittest.TestCase):
         self.assertEqual(len(lines(f"difference() {{ {self.CUBE} group(); }}")), 1)
         self.assertEqual(len(lines(f"difference() {{ %{self.OTHER} {self.CUBE} }}")), 1)
         self.assertEqual(len(lines(f"hull() {{ group(); {self.CUBE} }}")), 1)
+
+    def test_a_hull_takes_the_corners_of_faces_that_close_no_body(self):
+        # (the corners 0 to 3 are those of a tetrahedron, and no face has the last)
+        points = "points = [[0, 0, 0], [3, 0, 0], [0, 3, 0], [0, 0, 3], [9, 9, 9]]"
+        four, two = (f"polyhedron({points}, faces = {it});" for it in ("[[0, 1, 2, 3]]", "[[0, 1], [3, 2]]"))
+        mirror = "multmatrix([[-1, 0, 0, 0], [0, 1, 0, 0], [0, 0, 1, 0], [0, 0, 0, 1]])"
+        cube = "cube(size = [4, 1, 1], center = false);"
+        corners = [(0, 0, 0), (0, 0, 3), (0, 3, 0), (3, 0, 0)]
+        for text, expected in (
+            (four, corners),
+            (two, corners),
+            (f"color([1, 0, 0, 1]) {{ {mirror} {{ group() {{ {four} }} }} }}", [(-x, y, z) for x, y, z in corners]),
+            (f"{cube} {four}", sorted([*corners[:3], *((4, y, z) for y in (0, 1) for z in (0, 1))])),
+        ):
+            (body,) = bodies(f"hull() {{ {text} }}", Fraction(1))
+            self.assertEqual(sorted(body.corners), sorted(expected))
+        # (where it is joined with another shape first, OpenSCAD wants it closed)
+        with self.assertRaises(CsgFault) as caught:
+            bodies(f"hull() {{ group() {{ {cube} polyhedron({points}, faces = [[0, 1, 2], [0, 3, 1]]); }} }}")
+        self.assertEqual(caught.exception.word, "NotClosed")
         self.assertEqual(len(lines(f"minkowski() {{ group(); {self.CUBE} }}")), 1)
         nothing = (f"difference() {{ group(); {self.CUBE} }}", f"intersection() {{ {self.CUBE} group(); }}")
         for text in (*nothing, "", "%" + self.CUBE):
@@ -238,6 +258,23 @@ class Limits(unittest.TestCase):
         # (an eighth isn't on the grid of 1/20, which has room for 200, but on that of 1/8)
         found = converted(read("cube(size = [200, 0.125, 1], center = false);"), Wanted(), Front("."))
         self.assertEqual((found.unit, found.off), (Fraction(1, 8), 0.0))
+
+    def test_small_parts_have_finer_steps(self):
+        # (a step of 1/1000 where no corner moves on it; else the finest of which 4,095 reach the part's end)
+        for side, unit, steps in (
+            ("0.2", "1/1000", 200), ("0.3333", "1/10000", 3333), ("0.12347", "1/20000", 2469), ("0.50008", "1/5000", 2500),
+            ("1.0003", "1/4000", 4001), ("2.0003", "1/2000", 4001), ("3.0003", "1/1000", 3000), ("0.0001", "1/10000", 1),
+            ("0.0125", "1/2000", 25),
+        ):  # fmt: skip
+            text = f"cube(size = [{side}, {side}, {side}], center = false);"
+            found = converted(read(text), Wanted(), Front("."))
+            self.assertEqual(found.unit, Fraction(unit))
+            self.assertTrue(found.text.decode().startswith(f"// unit: {unit}\n"))
+            self.assertEqual(found.text.decode().splitlines()[-1], f"translate([0, 0, 0]) cube([{steps}, {steps}, {steps}]);")
+            # (the corner that is moved is moved along three axes, by what is left over)
+            self.assertAlmostEqual(found.off, abs(float(side) - steps * float(Fraction(unit))) * math.sqrt(3), 12)
+        text = "cube(size = [0.12347, 1, 1], center = false);"
+        self.assertEqual(lines(text, unit=Fraction(1, 100)), ["translate([0, 0, 0]) cube([12, 100, 100]);"])
 
     def test_what_vanishes_is_told_with_its_place(self):
         found = converted(

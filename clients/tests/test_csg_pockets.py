@@ -176,6 +176,29 @@ class Sources(unittest.TestCase):
                 bodies(text, 1)
             self.assertIn("isn't flat", caught.exception.said)
 
+    def test_a_flat_face_may_have_hollow_corners(self):
+        # (a star of four points, of the area 24, and a point 6 above it; its first corner is a hollow one)
+        star = [(1, 1), (0, 6), (-1, 1), (-6, 0), (-1, -1), (0, -6), (1, -1), (6, 0)]
+        lower, top = [(x, y, 0) for x, y in star], (0, 0, 6)
+        for first in range(8):
+            turned = [*lower[first:], *lower[:first]]
+            sides = [[p, q, top] for p, q in zip(turned, [*turned[1:], turned[0]])]
+            found = bodies(self.polyhedron([turned[::-1], *sides]), 1)
+            self.assertEqual(sum(volume6(it) for it in found), 6 * 48)
+            for x, y, z, is_inside in ((0, 0, 3, True), (4, 0, 1, True), (2, 2, 1, False), (-2, 2, 1, False), (0, 2, 3, True)):
+                behind = [all(a * x + b * y + c * z <= d for a, b, c, d in it.facets) for it in found]
+                self.assertEqual(any(behind), is_inside)
+
+    def test_a_corner_on_an_edge_may_be_beside_it_by_a_digit(self):
+        for aside in (0.00002, 0.0, -0.00002):
+            points = [[x, y, z] for z in (0, 10) for y in (0, 10) for x in (0, 10)]
+            points += [[5, aside, 2 * aside], [5, aside, 10 + aside]]
+            faces = [[0, 8, 1, 3, 2], [4, 6, 7, 5, 9], [0, 4, 9, 8], [8, 9, 5, 1], [2, 3, 7, 6], [0, 2, 6, 4], [1, 5, 7, 3]]
+            for turn in range(5):
+                faces[:2] = [[*it[1:], it[0]] for it in faces[:2]]
+                (body,) = bodies(f"polyhedron(points = {points}, faces = {faces}, convexity = 1);", 1)
+                self.assertEqual((volume6(body), len(body.corners)), (6 * 1000, 8))
+
     def test_faces_that_go_through_one_another(self):
         crossed = prism(HOOK, 3) + prism([(0, 0), (2, 0), (1, 2)], 8, (0, 3, -2))
         with self.assertRaises(CsgFault) as caught:

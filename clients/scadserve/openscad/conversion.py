@@ -4,9 +4,9 @@ told.
     conversion = converted(csg_reader.read(text), Wanted(), openscad_front.Front(folder))
     conversion.text, conversion.unit, conversion.told
 
-The grid is the finest of a list on which all corners have room, or a coarser one of it on which no corner moves. Where more
-planes or shapes come of it than a source may have, a design is one of any size (`of_any_size`), or corners of curves are left
-out, by as little as suffices (`converted`).
+The grid is the finest of a list on which all corners have room, or a coarser one of it on which no corner moves. Steps below
+1/1000 are for small parts of which corners move on that. Where more planes or shapes come of it than a source may have, a
+design is one of any size (`of_any_size`), or corners of curves are left out, by as little as suffices (`converted`).
 """
 
 from __future__ import annotations
@@ -31,6 +31,9 @@ from .tree import IDENTITY, Detail, Leaf, Solid, leaves, outer_leaves
 #: The grid steps that are tried, the finest first, in OpenSCAD's lengths.
 UNITS = [Fraction(1, it) for it in (1000, 500, 400, 200, 100, 80, 50, 40, 20, 10, 8, 5, 4, 2)]
 UNITS += [Fraction(it * 10**power) for power in range(7) for it in (1, 2, 5)]
+#: Those for small parts of which corners move on all others, and the finest of tiles: plans are read in millionths.
+SMALL_UNITS = [Fraction(1, it) for it in (20000, 10000, 5000, 4000, 2000)]
+_FINEST = Fraction(1, 100_000)
 # Below this, in grid steps, a corner hasn't moved: that much its six digits leave open.
 _STILL = 0.02
 # What is left out is tried from little to much, as the size of the design halved this often, and then between two of these.
@@ -191,7 +194,7 @@ class _Converter:
     def _finer(self, solid: Solid, unit: Fraction) -> Rounded | None:
         """The design on a finer grid, where corners move and all of its leaves have room on it; None where that isn't so, where
         a polyhedron can't be cut there, or a unit was asked for."""
-        if self._wanted.unit is not None or _is_still(outer_leaves(solid), unit):
+        if self._wanted.unit is not None or unit / FINER < _FINEST or _is_still(outer_leaves(solid), unit):
             return None
         with contextlib.suppress(TooLong, CsgFault):
             return Rounder(None, is_fine=True).rounded(solid, unit / FINER)
@@ -246,7 +249,10 @@ class _Converter:
             raise self._fault(
                 "OutOfRange", f"a corner is {greatest:.6g} from the origin, and with units of {units[-1]} {ROOM} have room"
             )
-        return next((it for it in fitting[:6] if _is_still(all_leaves, it) and _is_still(leaves(solid), it)), fitting[0])
+        small = [it for it in SMALL_UNITS if greatest <= room * float(it)] if self._wanted.unit is None else []
+        tried = [UNITS[0], *small[::-1]] if small else fitting[:6]
+        still = (it for it in tried if _is_still(all_leaves, it) and _is_still(leaves(solid), it))
+        return next(still, [*small, *fitting][0])
 
     def _within(self, solid: Solid, unit: Fraction, whole: Detail, many: TooMany) -> tuple[Fraction, Detail, Rounded]:
         """The design, which is of all detail, with no more planes and shapes than a part may have. Raises CsgFault."""
@@ -266,7 +272,7 @@ class _Converter:
 
     def _coarser(self, solid: Solid, unit: Fraction, whole: Detail) -> tuple[Fraction, Detail, Rounded]:
         """A coarser grid on which planes suffice, since they come to lie on one another. Raises CsgFault."""
-        units = [] if self._wanted.unit is not None else [it for it in UNITS if it > unit][:6]
+        units = [] if self._wanted.unit is not None else [it for it in SMALL_UNITS + UNITS if it > unit][:6]
         for it in units:
             try:
                 return it, whole, self._rounder.rounded(solid, it)

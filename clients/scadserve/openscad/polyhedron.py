@@ -7,11 +7,12 @@ triangles.
 
 from __future__ import annotations
 
+import math
 from collections import Counter
 from functools import partial
 from typing import Callable, NamedTuple, Sequence
 
-from . import exact_hull
+from . import convex_pieces, exact_hull
 from .flat import FINE
 from .reader import Node
 from .tree import Vector
@@ -101,16 +102,13 @@ def seen(node: Node, places: Sequence[Vector], faces: Sequence[Sequence[int]]) -
     points, numbers = _merged(places)
     rings = _single([[numbers[it] for at, it in enumerate(face) if numbers[it] != numbers[face[at - 1]]] for face in faces])
     rings = _flat_rings(node, points, rings)
-    # (turned round, so that triangles go counterclockwise as seen from outside)
-    triangles = [(ring[0], c, b) for ring in rings for b, c in zip(ring[1:], ring[2:])]
-    triangles = [it for it in triangles if len(set(it)) == 3]
+    triangles, planes = _triangulated(points, rings)
     if not triangles:
         return list
     is_simple = _is_simple(node, rings)
     if sum(_volume6((0, 0, 0), [points[it] for it in triangle]) for triangle in triangles) <= 0:
         raise node.fault("NotConvex", "its faces bound no volume: they go clockwise round their corners as seen from outside")
-    planes = [it for it in (_plane([points[it] for it in triangle]) for triangle in triangles) if it]
-    size = max(max(abs(it) for it in point) for point in points)
+    size = _size(points)
     used = sorted({it for ring in rings for it in ring})
     if is_simple and all(_height(plane, points[it]) <= _FLAT * size for plane in planes for it in used):
         return partial(_placed, [[points[it] for it in used]])
@@ -162,7 +160,7 @@ def _flat_rings(node: Node, points: Sequence[exact_hull.Point], rings: list[list
 
     Raises CsgFault at another face that isn't flat: it is not known how OpenSCAD cuts it.
     """
-    size = max((max(abs(it) for it in point) for point in points), default=0)
+    size = _size(points)
     found: list[list[int]] = []
     for ring in rings:
         corners = [points[it] for it in ring]
@@ -178,6 +176,61 @@ def _flat_rings(node: Node, points: Sequence[exact_hull.Point], rings: list[list
         a, b, c, d = ring
         found += [[a, b, d], [b, c, d]]
     return found
+
+
+def _triangulated(
+    points: Sequence[exact_hull.Point], rings: Sequence[Sequence[int]]
+) -> tuple[list[Triangle], list[tuple[float, float, float, float]]]:
+    """The triangles of faces, counterclockwise as seen from outside, and their planes; the plane of the face itself where some
+    of its triangles from its first corner on is turned over, or so thin that its digits leave its plane open."""
+    least = 3 * _FLAT * _size(points)
+    found: list[Triangle] = []
+    planes: list[tuple[float, float, float, float] | None] = []
+    for ring in rings:
+        # (turned round, since a face goes clockwise)
+        fan = [(ring[0], c, b) for b, c in zip(ring[1:], ring[2:]) if len({ring[0], b, c}) == 3]
+        own = _normal([points[it] for it in ring[::-1]])
+        ears = None if len(ring) < 4 or all(_is_wide([points[it] for it in three], own, least) for three in fan) else _ears(
+            points, ring[::-1], own)  # fmt: skip
+        found += fan if ears is None else ears
+        if ears is None:
+            planes += [_plane([points[it] for it in three]) for three in fan]
+        else:
+            planes.append(_across(own, [points[it] for it in ring]))
+    return found, [it for it in planes if it]
+
+
+def _is_wide(corners: Sequence[exact_hull.Point], own: exact_hull.Point, least: float) -> bool:
+    """Whether a triangle looks to where its face looks, and no corner of it is nearer to the opposite side than that."""
+    normal = _normal(corners)
+    longest = max(math.dist(p, q) for p, q in zip(corners, [*corners[1:], corners[0]]))
+    return exact_hull.dot(normal, own) > 0 and math.hypot(*normal) > least * longest
+
+
+def _ears(points: Sequence[exact_hull.Point], ring: Sequence[int], normal: exact_hull.Point) -> list[Triangle] | None:
+    """The triangles of a flat face that goes counterclockwise, as they are seen along an axis; None where it isn't simple."""
+    axis = max(range(3), key=lambda it: abs(normal[it]))
+    first, second = ((axis + 1) % 3, (axis + 2) % 3) if normal[axis] > 0 else ((axis + 2) % 3, (axis + 1) % 3)
+    seen = [(points[it][first], points[it][second]) for it in ring]
+    try:
+        convex_pieces.check_simple([seen])
+        return [(ring[i], ring[j], ring[k]) for i, j, k in convex_pieces.triangles(seen)]
+    except convex_pieces.NotSimple:
+        return None
+
+
+def _across(normal: exact_hull.Point, corners: Sequence[exact_hull.Point]) -> tuple[float, float, float, float] | None:
+    """The plane across a direction through the middle of corners."""
+    length = math.hypot(*normal)
+    if not length:
+        return None
+    x, y, z = (it / length for it in normal)
+    return x, y, z, sum(x * a + y * b + z * c for a, b, c in corners) / len(corners)
+
+
+def _size(points: Sequence[exact_hull.Point]) -> int:
+    """The farthest of points from the origin, along an axis."""
+    return max((max(abs(it) for it in point) for point in points), default=0)
 
 
 def _normal(corners: Sequence[exact_hull.Point]) -> exact_hull.Point:

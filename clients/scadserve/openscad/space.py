@@ -6,6 +6,7 @@ import math
 from typing import Callable, Dict, List, Sequence, Tuple
 
 from . import exact_hull
+from .arguments import SIZES
 from .extrude import Extrusion, turns
 from .flat import FINE, Plan, Plane, Render
 from .polyhedron import Surface, columns, cut, faces_of, looks_inward
@@ -148,11 +149,11 @@ class Space:
             return None if plan is None else Turned(node, matrix, self._plane, self._detail, plan).solid()
 
     def _hull(self, node: Node, matrix: Matrix) -> Solid | None:
-        within = self.solid(node.shown(), matrix)
-        if within is None:
-            return None
-        if is_union(within):
-            corners = [corner for leaf in leaves(within) for corner in leaf.corners]
+        clouds = [_cloud(it, matrix) for it in node.shown()]
+        within = [None if cloud else self._solid(it, matrix) for cloud, it in zip(clouds, node.shown())]
+        if all(it is None or is_union(it) for it in within):
+            corners = [corner for it in within for leaf in leaves(it) for corner in leaf.corners]
+            corners += [corner for cloud in clouds for corner in cloud or []]
         else:
             corners = moved(matrix, self._render_solid(node)[0])
         return Leaf(_corners(corners), frame_of(matrix), node) if corners else None
@@ -201,6 +202,22 @@ class Space:
     def _boundary(self, node: Node) -> list[Vector]:
         """The corners of what is in a node, as OpenSCAD has them."""
         return self._render_solid(node.with_children("union", node.shown()))[0]
+
+
+def _cloud(node: Node, matrix: Matrix) -> list[Vector] | None:
+    """The corners of the faces of a polyhedron alone, moved: of these OpenSCAD makes a hull, whether or not the faces close a
+    body. None where a node is something else. Raises CsgFault."""
+    while node.name in ("multmatrix", "group", "union", "color") and len(node.shown()) == 1:
+        if node.is_endless(SIZES.get(node.name, [])):
+            return None
+        matrix = times(matrix, matrix_of(node)) if node.name == "multmatrix" else matrix
+        node = node.shown()[0]
+    points = node.arguments.get("points")
+    if node.name != "polyhedron" or not isinstance(points, list):
+        return None
+    used = {at for face in faces_of(node, len(points)) for at in face}
+    places = [(x, y, z) for x, y, z in (node.numbers("points", 3, points[it]) for it in sorted(used))]
+    return moved(matrix, places)
 
 
 def _without_move(matrix: Matrix) -> Matrix:
