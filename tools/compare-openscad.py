@@ -129,8 +129,7 @@ def grid_of(said):
     found = [re.search(pattern, said) for pattern in (r"moved by ([\d.e+-]+)", r"off by more than ([\d.e+-]+)")]
     # (two digits are told, and corners that have not moved are within a fiftieth of a step)
     off = sum(float(it[1]) * 1.06 for it in found if it) + float(unit) * 0.03 + 1e-4
-    is_rounded = found[1] is None and "thinner than the grid" not in said
-    return Grid(float(unit), finer[1] if finer else str(unit), off, is_rounded)
+    return Grid(float(unit), finer[1] if finer else str(unit), off, found[1] is None)
 
 
 def is_closed(text, folder):
