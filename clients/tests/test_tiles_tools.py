@@ -1,5 +1,5 @@
-"""Designs past the limits of a source by the tools, each of which makes tiles of them by itself, and what reads the text that is
-joined of them. And tiles that the server answers with a limit, which are halved."""
+"""Designs past the limits of a source by the tools, each of which makes tiles of them by itself, and what reads the text that
+is joined of them. And tiles that the server answers with a limit, which are halved."""
 
 import math
 import os
