@@ -4,17 +4,17 @@ meshes.
 
     tools/compare-openscad.py [--kept DIR] [--jobs N] [--longest SECONDS] [--solids] [FILE.scad | DIR ..]
 
-Without a FILE it takes bench/openscad and the examples that OpenSCAD ships, and of a folder all sources in it. A row of a
-table is printed for each: whether it passes, how many seconds both took (ours by the clock and of all processors, OpenSCAD's
-of its one), of how many tiles ours is made, how far a point may be off, also as a share of the part's size, what OpenSCAD
-makes of it, and what stops it or differs. Where OpenSCAD makes no solid, a refusal passes; what it makes of a plan is that of
-`linear_extrude(1)`. DIR keeps OpenSCAD's meshes, which may take minutes. N is the number of runs of the server side by side.
-A program that takes more SECONDS of a processor (600) is ended. With `--solids` ours is made only where OpenSCAD makes a solid
-with a closed mesh, and says no error.
+Without a FILE it takes bench/openscad and the examples that OpenSCAD ships, and of a folder all sources in it. A row of a table
+is printed for each: whether it passes, how many seconds both took (ours by the clock and of all processors, OpenSCAD's of its
+one), of how many tiles ours is made, the step of its grid, how far a point may be off, also as a share of the part's size, what
+OpenSCAD makes of it, and what stops it or differs. Where OpenSCAD makes no solid, a refusal passes; what it makes of a plan is
+that of `linear_extrude(1)`. DIR keeps OpenSCAD's meshes, which may take minutes. N is the number of runs of the server side by
+side. A program that takes more SECONDS of a processor (600) is ended. With `--solids` ours is made only where OpenSCAD makes a
+solid with a closed mesh, and says no error.
 
-The last lines count how many pass, of how many OpenSCAD makes a solid with a closed mesh, and how many of these pass with no
-point off by more than a thousandth of their size. The status is 0 where nothing differs, 1 where something does, and 2 where
-openscad, admesh or a file is missing.
+The last lines count how many pass, how many were made of which nothing but rounding to the grid moves a point, of how many
+OpenSCAD makes a solid with a closed mesh, and how many of these pass with no point off by more than a thousandth of their size.
+The status is 0 where nothing differs, 1 where something does, and 2 where openscad, admesh or a file is missing.
 """
 
 import argparse
@@ -43,12 +43,14 @@ EXAMPLES = "/usr/share/openscad/examples/*/*.scad"
 
 
 class Row(NamedTuple):
-    """What is found of a source: its row, whether it passes, and what OpenSCAD makes of it."""
+    """What is found of a source: its row, whether it passes, what OpenSCAD makes of it, whether it passes within a thousandth
+    of its size, and whether nothing but rounding moves a point, or None where none is made."""
 
     cells: list[str]
     passes: bool | None
     made: str
-    is_fine: bool
+    is_fine: bool = False
+    is_rounded: bool | None = None
 
 
 def spent():
@@ -110,13 +112,24 @@ def ours(file, folder, asked):
         return it.read(), by_clock, took, said
 
 
-def off_and_unit(said, size):
-    """How far a point of a part of a size may be off, and the unit, of what the last conversion said."""
+class Grid(NamedTuple):
+    """The unit and the step of the grid of a part, how far a point may be off, and whether nothing but rounding moves one."""
+
+    unit: float
+    step: str
+    off: float
+    is_rounded: bool
+
+
+def grid_of(said, size):
+    """The grid of a part of a size, of what the last conversion said."""
     said = said[said.rindex(": on a grid of ") :]
     unit = Fraction(re.search(r": on a grid of ([\d/]+)", said)[1])
+    finer = re.search(r"its tiles have steps of ([\d/]+)", said)
     found = [re.search(pattern, said) for pattern in (r"moved by ([\d.e+-]+)", r"off by more than ([\d.e+-]+)")]
     # (two digits are told, corners that have not moved are within a fiftieth of a step, and OpenSCAD's meshes have six digits)
-    return sum(float(it[1]) * 1.06 for it in found if it) + float(unit) * 0.03 + min(1e-4, 1e-5 * size), float(unit)
+    off = sum(float(it[1]) * 1.06 for it in found if it) + float(unit) * 0.03 + min(1e-4, 1e-5 * size)
+    return Grid(float(unit), finer[1] if finer else str(unit), off, found[1] is None)
 
 
 def is_closed(text, folder):
@@ -145,8 +158,10 @@ def compared(file, base, asked):
         if body and body.volume():
             made = "error" if is_wrong else ("closed" if meets_itself(body) else "open") + " plan" * is_plan
         if asked.solids and made != "closed":
-            return Row([name, "", "", "", f"{their_time:.1f}", "", "", made, ""], None, made, False)
+            return Row([name, "", "", "", f"{their_time:.1f}", "", "", "", made, ""], None, made)
         text, by_clock, our_time, said = ours(base + "-plan.scad" if is_plan else file, folder, asked)
+        size = math.dist(*zip(*body.box())) if body else 1
+        grid = None if text is None else grid_of(said, size)
         what, off, passes, is_fine = "", "", False, False
         if text is None:
             refusal = re.search(r"error: (.+)", said)
@@ -155,19 +170,17 @@ def compared(file, base, asked):
         elif not body:
             what = f"OpenSCAD makes no solid within {asked.longest} s of a processor"
         else:
-            size = math.dist(*zip(*body.box()))
-            distance, unit = off_and_unit(said, size)
-            our_body = of_4off(text, unit)
-            found = differences(our_body, body, distance)
+            our_body = of_4off(text, grid.unit)
+            found = differences(our_body, body, grid.off)
             found += [] if is_closed(text, folder) else ["admesh finds it open"]
-            off, what, passes = f"{distance:.2g} (1/{size / distance:.0f})", "; ".join(found), not found
-            is_fine = passes and distance * 1000 <= size
+            off, what, passes = f"{grid.off:.2g} (1/{size / grid.off:.0f})", "; ".join(found), not found
+            is_fine = passes and grid.off * 1000 <= size
     tiles = re.search(r"made of (\d+) tiles", said)
     cells = [
         name + (" (1 high)" if is_plan else ""), "yes" if passes else "no", f"{by_clock:.1f}", f"{our_time:.1f}",
-        f"{their_time:.1f}", tiles[1] if tiles else "", off, made, what,
+        f"{their_time:.1f}", tiles[1] if tiles else "", grid.step if grid else "", off, made, what,
     ]  # fmt: skip
-    return Row(cells, passes, made, is_fine)
+    return Row(cells, passes, made, is_fine, grid.is_rounded if grid else None)
 
 
 def sources_of(asked):
@@ -194,7 +207,8 @@ def main():
     if missing:
         print(f"not there: {', '.join(missing)}", file=sys.stderr)
         return 2
-    heads = ["Source", "Passes", "s", "s of processors", "s, OpenSCAD", "Tiles", "Off by at most", "OpenSCAD's", "Otherwise"]
+    heads = ["Source", "Passes", "s", "s of processors", "s, OpenSCAD", "Tiles", "Step", "Off by at most", "OpenSCAD's"]
+    heads.append("Otherwise")
     print(f"| {' | '.join(heads)} |\n{'|---' * len(heads)}|", flush=True)
     rows = []
     with tempfile.TemporaryDirectory() as folder:
@@ -207,6 +221,8 @@ def main():
             print(f"| {' | '.join(rows[-1].cells)} |", flush=True)
     compared_ones = [it for it in rows if it.passes is not None]
     print(f"{sum(it.passes for it in compared_ones)} of {len(compared_ones)} pass")
+    made_ones = [it.is_rounded for it in rows if it.is_rounded is not None]
+    print(f"of {sum(made_ones)} of {len(made_ones)} that were made, only rounding to the grid moves a point")
     for kind, name in (("closed", "solid"), ("closed plan", "solid, of a plan that is made 1 high,")):
         those = [it for it in rows if it.made == kind]
         fine = sum(it.is_fine for it in those)

@@ -257,6 +257,10 @@ class Compared(Calls):
         self.assert_same("linear_extrude(height = 6, twist = 60, slices = 2) translate([3, 1]) square([4, 2]);")
         self.assert_same("linear_extrude(height = 3, scale = [0.5, 1.5]) translate([1, 1]) square([4, 3]);")
 
+    def test_a_thread_keeps_its_slices(self):
+        # (by tiles, since 48 slices that turn have 24 sides each)
+        self.assert_same("linear_extrude(height = 10, twist = 720, slices = 48) translate([0.6, 0]) circle(5, $fn = 24);")
+
     def test_texts_and_slanted_parts(self):
         self.assert_same(
             'rotate([30, 20, 10]) difference() { cube([9, 6, 3]); translate([2, 2, -1]) cylinder(h = 9, r = 1.5, $fn = 8); }'

@@ -219,6 +219,15 @@ class Forms(unittest.TestCase):
             self.assertTrue(any("since a size is infinite or undefined" in it for it in found.told), shape)
         self.assertIn("Empty", self.fault("sphere($fn = 8, r = inf);"))
 
+    def test_a_polyhedron_that_is_turned_is_told(self):
+        faces = "[[0, 2, 1], [0, 1, 3], [0, 3, 2], [1, 2, 3]]"
+        text = f"polyhedron(points = [[0, 0, 0], [3, 0, 0], [0, 3, 0], [0, 0, 3]], faces = {faces}, convexity = 1);"
+        told = "turned, since all faces looked inward: polyhedron at 1:1, node 1"
+        self.assertIn(told, converted(read(text), Wanted(), Front(".")).told)
+        # (and one whose faces look outward is not)
+        outward = text.replace(faces, "[[0, 1, 2], [0, 3, 1], [0, 2, 3], [1, 3, 2]]")
+        self.assertNotIn("turned", "".join(converted(read(outward), Wanted(), Front(".")).told))
+
     def test_slices_that_would_vanish_are_joined(self):
         text = "linear_extrude(height = 30, scale = [2, 3], $fn = 0) { square(size = [200, 200]); }"
         found = of_any_size(read(text), Wanted(), Front("."))

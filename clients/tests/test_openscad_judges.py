@@ -150,6 +150,12 @@ class Judged(Calls):
     def test_terrains(self):
         self.assert_same(TERRAINS)
 
+    def test_a_terrain_past_the_limits_of_a_source(self):
+        # (1,152 triangles, of which few lie on one plane)
+        rows = [" ".join(str((7 * x * x + 3 * x * y + 11 * y) % 13) for x in range(25)) for y in range(25)]
+        self.write("wide.dat", "\n".join(rows) + "\n")
+        self.assert_same(['surface("wide.dat");'])
+
     def test_what_openscad_makes_nothing_of_is_a_fault(self):
         status, said, found = self.both(NOTHING)
         self.assertEqual(status, 1)

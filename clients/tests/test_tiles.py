@@ -14,7 +14,7 @@ from scadserve.solid import fouroff, measures
 from scadserve.solid.surface import NotClosed
 from scadserve.solving import Solid, solve
 from scadserve.tiles.cutting import EMPTY, FULL, Limits, Near, Tile, halved, near_leaves, whole_box, whole_tree, within
-from scadserve.tiles.dividing import halves
+from scadserve.tiles.dividing import halves, pieces, sources
 from scadserve.tiles.gluing import NotOfTile, glued, part_of
 from scadserve.tiles.joined import text_of
 from scadserve.tiles.making import made
@@ -135,6 +135,20 @@ class Shapes(unittest.TestCase):
         self.assertGreater(inside, 30)
 
 
+def stack(levels):
+    """Thin cones on one another, as a profile that is turned round an axis: each has rings of 80 corners below and above."""
+    return Join(UNION, [chance.cone((0, 0, 4 * at), 640 - 3 * at, 637 - 3 * at, 4, 80) for at in range(levels)])
+
+
+class Rings(unittest.TestCase):
+    """What lies between two long rings in a tile needs few points and planes, so that tiles need not be small."""
+
+    def test_there_are_few_tiles(self):
+        found = list(sources(pieces(stack(20), Limits()), Limits()))
+        # (1,600 planes and more, of which a tile has 300)
+        self.assertTrue(6 <= len(found) <= 24, len(found))
+
+
 class Glued(unittest.TestCase):
     """A box of 2 by 1 by 1, cut in two at x = 1."""
 
@@ -227,6 +241,10 @@ class WithTheProgram(unittest.TestCase):
         for seed in range(3):
             rolled = Random(seed)
             self.assert_same(chance.design(rolled, 150))
+
+    def test_rings_on_one_another(self):
+        # (as one source 800 planes and more)
+        self.assertGreater(self.assert_same(stack(10), Limits(planes=100, facets=400, shapes=80)), 8)
 
     def test_walls_at_halves_of_the_grid(self):
         # (steps of a stair at each place: no whole place is free, and all of it is too much for one tile)

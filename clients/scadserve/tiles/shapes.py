@@ -83,6 +83,9 @@ class _Shapes:
         self._corners = [(i, j, k) for i in (a, x) for j in (b, y) for k in (c, z)]
         self.planes: set[Plane] = set()
         self._count = self._others = 0
+        # (hulls whose planes beside those of the design are estimated, and what such planes there are of others)
+        self._estimated: list[list[Point]] = []
+        self._inner: set[Plane] = set()
 
     def of(self, tree: Tree) -> Shape | Join[Shape] | None:
         """The shapes of a tree; None where they are nothing. Raises TooMuch."""
@@ -134,9 +137,19 @@ class _Shapes:
         self.planes.update(planes)
         self._others += others
         self._count += 1
+        if len(self.planes) + self._others > self._limits.planes:
+            self._count_planes()
         if len(self.planes) + self._others > self._limits.planes or self._count > self._limits.shapes:
             raise TooMuch
         return shape
+
+    def _count_planes(self) -> None:
+        """Counts planes of hulls that were estimated so far: many have them in common."""
+        for points in self._estimated:
+            found = hull(points)
+            self._inner.update(map(either, found.facets if found else ()))
+        self._estimated.clear()
+        self._others = len(self._inner - self.planes)
 
     def _hull(self, leaf: Convex, facets: Sequence[int], points: list[Point], triangles: int) -> Shape | None:
         """The hull of points of a leaf, among which those of these facets are, and this many triangles on these; None where it
@@ -151,6 +164,7 @@ class _Shapes:
         # (of n points in general position a hull has 2 n - 4 triangles)
         others = max(2 * len(points) - 4 - triangles, 3)
         chosen = [*first, *(it for it in points if it not in first)]
+        self._estimated.append(chosen)
         return self._shape(Shape(hull_text([less(it, self._origin) for it in chosen])), planes, others)
 
     def _points(self, near: Near) -> tuple[list[Point], int]:
@@ -159,22 +173,24 @@ class _Shapes:
         corners = leaf.hull.corners
         axes = leaf.prism_axes() if self._is_fine else []
         found: set[int] = set()
-        held = list(self._corners)
+        held = [it for it in self._corners if near.holds(it)]
         triangles = 0
         for at in near.facets:
-            axis = across(leaf.planes[at]) if self._is_fine else None
+            axis = across(leaf.planes[at]) if self._is_fine or len(leaf.rings[at]) > _FEW_OF_RING else None
+            section: list[Point] = []
             if axis is None:
                 numbers = _ring_near(leaf, at, self._box)
             else:
                 # (what of it is in the tile has corners of edges that are near, and of the tile's section there)
                 numbers = _edges_near(leaf, at, self._box)
                 place = corners[leaf.rings[at][0]][axis]
-                held += [_at(it, axis, place) for it in self._corners]
+                section = [it for it in dict.fromkeys(_at(it, axis, place) for it in self._corners) if near.holds(it)]
+                held += section
             found.update(numbers)
-            triangles += max(0, len(numbers) - 2)
+            triangles += max(0, len(numbers) + len(section) - 2)
         points = [corners[it] for it in sorted(found)]
         points = [self._beside(it, axes) for it in points] if axes else points
-        return list(dict.fromkeys([*points, *(it for it in held if near.holds(it))])), triangles
+        return list(dict.fromkeys([*points, *held])), triangles
 
 
 def _at(point: Point, axis: int, place: int) -> Point:
